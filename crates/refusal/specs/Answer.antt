@@ -1,0 +1,24 @@
+-- Document 01, "Refusals, by number": "Given exactly when" and "The lowest number that applies is given, everywhere."
+use Prim.Native.Nat.{ℕ}
+use mathlib.Core.Path.{_≡_, refl}
+use mathlib.Core.Bool.{Bool, true, false}
+use native.Mathlib.Omega.{arith}
+use Rattle.refusal.specs.Test.{pick}
+
+-- what a call answers: a refusal, by its number, or a full answer
+pub data Answer (A : Type 0) : Type 0 where
+  refused : ℕ → Answer A
+  full : A → Answer A
+
+-- refusal k unless the test holds. A definition makes its demands in the order of their numbers, so the lowest that applies is given
+abbrev pub demand : {A : Type 0} → Bool → ℕ → Answer A → Answer A
+demand t k x = pick t x (refused k)
+
+-- a full answer met each demand
+pub demand-elim : {A : Type 0} {P : Type 0} (t : Bool) (k : ℕ) {x : Answer A} {v : A} → (t ≡ true → x ≡ full v → P) → demand t k x ≡ full v → P
+demand-elim true k f e = f refl e
+demand-elim false k f e = absurd (let z : _≡_ {A = ℕ} 0 1 = cc in omega arith)
+
+-- two full answers that are equal are full of the same, and no full answer is a refusal
+pub full-one : {A : Type 0} {v w : A} → full v ≡ full w → v ≡ w
+full-one e = cc

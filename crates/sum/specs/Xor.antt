@@ -1,0 +1,44 @@
+-- Laws of the exclusive-or of two numbers that the library has not: it may be regrouped, and only equal numbers cancel.
+use Prim.Native.Nat.{ℕ, zero, suc, _+_, _*_, _/_, _%_, _^_, _≤_, _<_}
+use mathlib.Core.Path.{_≡_, refl, sym, ap, ap₂, _∙_}
+use native.Mathlib.Omega.{arith}
+use lib.Bits.{bitXor, bitAnd, differ, xor-step, xor-shr, xor-mod, xor-self, xor-zero-l, xor-zero-r, xor-comm, xor-add-and, and-le-l, and-le-r}
+
+xor-half : (a b : ℕ) → bitXor a b / 2 ≡ bitXor (a / 2) (b / 2)
+xor-half a b = xor-shr a b 1
+
+xor-odd : (a b : ℕ) → bitXor a b % 2 ≡ bitXor (a % 2) (b % 2)
+xor-odd a b = xor-mod a b 1
+
+-- of three odd-or-even marks
+differ-assoc : (a b c : ℕ) → a < 2 → b < 2 → c < 2 → bitXor (bitXor a b) c ≡ bitXor a (bitXor b c)
+differ-assoc zero b c ha hb hc = rw (xor-zero-l b, xor-zero-l (bitXor b c))
+differ-assoc (suc zero) zero c ha hb hc = rw (xor-zero-r 1, xor-zero-l c)
+differ-assoc (suc zero) (suc zero) zero ha hb hc = refl
+differ-assoc (suc zero) (suc zero) (suc zero) ha hb hc = refl
+differ-assoc (suc (suc a)) b c ha hb hc = absurd (omega arith)
+differ-assoc (suc zero) (suc (suc b)) c ha hb hc = absurd (omega arith)
+differ-assoc (suc zero) (suc zero) (suc (suc c)) ha hb hc = absurd (omega arith)
+
+-- a number is its half and its odd mark
+split : (x y : ℕ) → x / 2 ≡ y / 2 → x % 2 ≡ y % 2 → x ≡ y
+split x y h o = omega arith
+
+assoc-below : (n a b c : ℕ) → a ≤ n → b ≤ n → c ≤ n → bitXor (bitXor a b) c ≡ bitXor a (bitXor b c)
+assoc-below zero a b c ha hb hc =
+    let ea : a ≡ 0 = omega arith in
+    let eb : b ≡ 0 = omega arith in
+    let ec : c ≡ 0 = omega arith in
+    rw (ea, eb, ec)
+assoc-below (suc n) a b c ha hb hc =
+    split (bitXor (bitXor a b) c) (bitXor a (bitXor b c))
+    (rw (xor-half (bitXor a b) c, xor-half a b, xor-half a (bitXor b c), xor-half b c)
+    (assoc-below n (a / 2) (b / 2) (c / 2) (omega arith) (omega arith) (omega arith)))
+    (rw (xor-odd (bitXor a b) c, xor-odd a b, xor-odd a (bitXor b c), xor-odd b c)
+    (differ-assoc (a % 2) (b % 2) (c % 2) (omega arith) (omega arith) (omega arith)))
+
+pub xor-assoc : (a b c : ℕ) → bitXor (bitXor a b) c ≡ bitXor a (bitXor b c)
+xor-assoc a b c = assoc-below (a + b + c) a b c (omega arith) (omega arith) (omega arith)
+
+pub xor-cancel : (a b : ℕ) → bitXor a b ≡ 0 → a ≡ b
+xor-cancel a b e = omega (arith, xor-add-and a b, and-le-l a b, and-le-r a b)
