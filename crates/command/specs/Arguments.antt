@@ -36,7 +36,7 @@ abbrev pub isQueried : ℕ → ℕ → Bool
 isQueried a d = ((isGear a || eqb a 255) && eqb d 255) || (isDevice a && (isInstance d || eqb d 255))
 
 -- the arguments A, B, C, D are within the ranges of a rule
-abbrev pub fits : Rule → ℕ → ℕ → ℕ → ℕ → Bool
+unfoldable pub fits : Rule → ℕ → ℕ → ℕ → ℕ → Bool
 fits Group a b c d = isGroup a && unnamed b && unnamed c && unnamed d
 fits Emit a b c d = isEmit a && unnamed b && unnamed c && unnamed d
 fits Bare a b c d = unnamed a && unnamed b && unnamed c && unnamed d

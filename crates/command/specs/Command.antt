@@ -1,8 +1,11 @@
 -- Document 01, "Requests and their argument ranges": the known command numbers, and "each other number is unknown".
-use Prim.Native.Nat.{ℕ}
+use Prim.Native.Nat.{ℕ, _≤_, _<_}
+use mathlib.Core.Path.{_≡_, refl}
 use mathlib.Core.Bool.{Bool, true, false}
 use mathlib.Core.List.{List, [], _∷_}
 use lib.Dec.{leb}
+use borrow.Author.Tests.{leb-true}
+use native.Mathlib.Omega.{arith}
 use Rattle.refusal.specs.Test.{pick}
 use Rattle.command.specs.declared.Rule.{Rule}
 use Rattle.command.specs.declared.Rule.the-variants.{Group, Emit, Bare, Timers, GroupScene, Channel, Filter, Query, Gear, Inhibit, Scene, Level, Lights, Address, Status}
@@ -57,3 +60,33 @@ named Unicast = true
 
 abbrev pub isKnown : ℕ → Bool
 isKnown c = named (shapeOf c)
+
+-- what every line of a table says of its numbers, the table says of each number
+abbrev AllRows : (ℕ → Shape → Type 0) → List Row → Type 0
+AllRows P [] = Unit {0}
+AllRows P (row lo hi s ∷ rows) = ((c : ℕ) → lo ≤ c → c ≤ hi → P c s) × AllRows P rows
+
+find-has : (P : ℕ → Shape → Type 0) (c : ℕ) → P c Unknown → (rows : List Row) → AllRows P rows → P c (find c rows)
+find-has P c u [] a = u
+find-has P c u (row lo hi s ∷ rows) a = go (leb lo c) refl (leb c hi) refl (find-has P c u rows (a .1))
+  where
+    go : (x : Bool) → leb lo c ≡ x → (y : Bool) → leb c hi ≡ y → P c (find c rows) → P c (pick x (pick y s (find c rows)) (find c rows))
+    go true l true h other = a .0 c (leb-true lo c l) (leb-true c hi h)
+    go true l false h other = other
+    go false l y h other = other
+
+-- a known command is a byte, and the only dynamic request is 40
+abbrev Placed : ℕ → Shape → Type 0
+Placed c Unknown = Unit {0}
+Placed c (Basic r) = c < 256
+Placed c Unicast = c ≡ 0x40
+
+placed : (c : ℕ) → Placed c (shapeOf c)
+unfolding shapeOf
+placed c = find-has Placed c tt rows ((λ c l h. omega arith), ((λ c l h. omega arith), ((λ c l h. omega arith), ((λ c l h. omega arith), ((λ c l h. omega arith), ((λ c l h. omega arith), ((λ c l h. omega arith), ((λ c l h. omega arith), ((λ c l h. omega arith), ((λ c l h. omega arith), ((λ c l h. omega arith), ((λ c l h. omega arith), ((λ c l h. omega arith), ((λ c l h. omega arith), ((λ c l h. omega arith), ((λ c l h. omega arith), ((λ c l h. omega arith), ((λ c l h. omega arith), ((λ c l h. omega arith), ((λ c l h. omega arith), ((λ c l h. omega arith), ((λ c l h. omega arith), tt))))))))))))))))))))))
+
+pub basic-byte : (c : ℕ) (r : Rule) → shapeOf c ≡ Basic r → c < 256
+basic-byte c r e = rw e at (placed c)
+
+pub unicast-only : (c : ℕ) → shapeOf c ≡ Unicast → c ≡ 0x40
+unicast-only c e = rw e at (placed c)

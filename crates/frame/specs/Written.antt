@@ -11,7 +11,7 @@ use native.Mathlib.Nat.{zero-add}
 use native.Mathlib.Omega.{arith}
 use Rattle.sum.specs.Sum.{sumOf}
 use Rattle.refusal.specs.Test.{pick}
-use Rattle.refusal.specs.Answer.{Answer, refused, full, demand}
+use Rattle.refusal.specs.Answer.{Answer, refused, full, demand, determined}
 use Rattle.frame.specs.Frame.{sealed, sealed-length}
 use Rattle.frame.specs.declared.Wrote.{Wrote}
 use Rattle.frame.specs.declared.Wrote.the-variants.{Count, Refused}
@@ -37,14 +37,20 @@ pub record Written (v : Answer (List ℕ)) (out : List ℕ) (r : Wrote) (out′ 
   pub leaves : out′ ≡ after v out
 
 -- it leaves no choice
-said-one : (r s : Wrote) → said r ≡ said s → r ≡ s
-said-one (Refused j) (Refused k) e = cc
-said-one (Refused j) (Count n) e = absurd (let z : _≡_ {A = ℕ} 0 1 = cc in omega arith)
-said-one (Count m) (Refused k) e = absurd (let z : _≡_ {A = ℕ} 0 1 = cc in omega arith)
-said-one (Count m) (Count n) e = cc
+back : Answer ℕ → Wrote
+back (refused k) = Refused k
+back (full n) = Count n
+
+wrote-one : {v : Answer ℕ} (r s : Wrote) → said r ≡ v → said s ≡ v → r ≡ s
+unfolding back
+wrote-one r s = determined said back inverse r s
+  where
+    inverse : (r : Wrote) → back (said r) ≡ r
+    inverse (Refused k) = refl
+    inverse (Count n) = refl
 
 pub written-one : {v : Answer (List ℕ)} {out p q : List ℕ} {r s : Wrote} → Written v out r p → Written v out s q → (r ≡ s) × (p ≡ q)
-written-one {v} {out} {p} {q} {r} {s} a b = (said-one r s (a .says ∙ sym (b .says)), a .leaves ∙ sym (b .leaves))
+written-one {v} {out} {p} {q} {r} {s} a b = (wrote-one r s (a .says) (b .says), a .leaves ∙ sym (b .leaves))
 
 -- a refusal, and a frame that another writer is asked to write
 pub refuses : {v : Answer (List ℕ)} {k : ℕ} (out : List ℕ) → v ≡ refused k → Written v out (Refused k) out
@@ -52,6 +58,12 @@ refuses out e = record { says = rw e; leaves = rw e }
 
 pub passes : {v : Answer (List ℕ)} {f out p : List ℕ} {r : Wrote} → v ≡ full f → Written (full f) out r p → Written v out r p
 passes e w = rw e w
+
+-- where the buffer is long enough, the frame is written whole, and what lies behind it stays
+pub written-whole : {f out p : List ℕ} {r : Wrote} → Written (full f) out r p → length f ≤ length out → (r ≡ Count (length f)) × (p ≡ f ++ drop (length f) out)
+written-whole {f} {out} {p} {r} w h =
+    let t : leb (length f) (length out) ≡ true = le-leb (length f) (length out) h in
+    (wrote-one r (Count (length f)) (w .says ∙ rw t) refl, w .leaves ∙ rw t)
 
 -- the bytes of a run, their sum behind them, over a buffer with room for both
 module _ (h d o p q : List ℕ) (x : ℕ) (room : length h + length d < length o)

@@ -1,3 +1,4 @@
+use Rattle.command.specs.Arguments.{fits}
 use borrow.Author.Needs.{needs}
 use Rattle.command.proofs.fits.Statement.{statement}
 use Rattle.command.proofs.fits.Tie as tie
@@ -48,48 +49,63 @@ enum-told-15 : tie.Need-enum-told-15
 enum-told-15 c = search needs
 
 returns : tie.Need-returns
+unfolding fits
 returns c = rw (c .enum-told .given .1)
 
 returns-2 : tie.Need-returns-2
+unfolding fits
 returns-2 c = rw (c .enum-told2 .given .1)
 
 returns-3 : tie.Need-returns-3
+unfolding fits
 returns-3 c = rw (c .enum-told3 .given .1)
 
 returns-4 : tie.Need-returns-4
+unfolding fits
 returns-4 c = rw (c .enum-told4 .given .1)
 
 returns-5 : tie.Need-returns-5
+unfolding fits
 returns-5 c = rw (c .enum-told5 .given .1)
 
 returns-6 : tie.Need-returns-6
+unfolding fits
 returns-6 c = rw (c .enum-told6 .given .1)
 
 returns-7 : tie.Need-returns-7
+unfolding fits
 returns-7 c = rw (c .enum-told7 .given .1)
 
 returns-8 : tie.Need-returns-8
+unfolding fits
 returns-8 c = rw (c .enum-told8 .given .1)
 
 returns-9 : tie.Need-returns-9
+unfolding fits
 returns-9 c = rw (c .enum-told9 .given .1)
 
 returns-10 : tie.Need-returns-10
+unfolding fits
 returns-10 c = rw (c .enum-told10 .given .1)
 
 returns-11 : tie.Need-returns-11
+unfolding fits
 returns-11 c = rw (c .enum-told11 .given .1)
 
 returns-12 : tie.Need-returns-12
+unfolding fits
 returns-12 c = rw (c .enum-told12 .given .1)
 
 returns-13 : tie.Need-returns-13
+unfolding fits
 returns-13 c = rw (c .enum-told13 .given .1)
 
 returns-14 : tie.Need-returns-14
+unfolding fits
 returns-14 c = rw (c .enum-told14 .given .1)
 
 returns-15 : tie.Need-returns-15
+unfolding fits
 returns-15 c = rw (c .enum-told15 .given .1)
 
 pub fits-spec : {M : Type 1} → statement M

@@ -1,0 +1,68 @@
+use Rattle.request.specs.Reading.{readRequest, shape-read}
+use Rattle.refusal.specs.Test.{tests}
+use borrow.Author.Needs.{needs}
+use Rattle.request.proofs.read.Statement.{statement}
+use Rattle.request.proofs.read.Tie as tie
+
+returns : tie.Need-returns
+unfolding readRequest
+returns c = search (tests, needs)
+
+shared-slice-read-if2 : tie.Need-shared-slice-read-if2
+shared-slice-read-if2 c = search needs
+
+returns-2 : tie.Need-returns-2
+unfolding readRequest
+returns-2 c = search (tests, needs)
+
+shared-slice-read-shape-of : tie.Need-shared-slice-read-shape-of
+shared-slice-read-shape-of c = search needs
+
+shape-of-requires : tie.Need-shape-of-requires
+shape-of-requires c κs = search needs
+
+enum-told : tie.Need-enum-told
+enum-told c = search needs
+
+enum-known-shape : tie.Need-enum-known-shape
+enum-known-shape c = search needs
+
+read-basic-requires : tie.Need-read-basic-requires
+read-basic-requires c κs = search needs
+
+enum-told-2 : tie.Need-enum-told-2
+enum-told-2 c = search needs
+
+read-unicast-requires : tie.Need-read-unicast-requires
+read-unicast-requires c κs = search needs
+
+returns-3 : tie.Need-returns-3
+returns-3 c = shape-read (c .before .before .before .before .before .before .before .before .args .s .now) (c .before .before .shape-of .result) _ (search needs) (c .before .before .before .before .if2 .left) (c .before .before .shape-of .ensures) (rw (c .enum-told .given .1))
+
+returns-4 : tie.Need-returns-4
+returns-4 c =
+    shape-read (c .before .before .before .before .before .before .before .before .before .before .args .s .now) (c .before .before .before .before .shape-of .result) _ (search needs) (c .before .before .before .before .before .before .if2 .left) (c .before .before .before .before .shape-of .ensures)
+    (rw (c .before .before .shape .given .1) (c .read-basic .ensures))
+
+returns-5 : tie.Need-returns-5
+returns-5 c =
+    shape-read (c .before .before .before .before .before .before .before .before .before .args .s .now) (c .before .before .before .shape-of .result) _ (search needs) (c .before .before .before .before .before .if2 .left) (c .before .before .before .shape-of .ensures)
+    (rw (c .before .enum-told2 .given .1) (c .read-unicast .ensures))
+
+pub read-spec : {M : Type 1} → statement M
+read-spec =
+    tie.close
+    (tie.spec
+    returns
+    shared-slice-read-if2
+    returns-2
+    shared-slice-read-shape-of
+    shape-of-requires
+    enum-told
+    enum-known-shape
+    read-basic-requires
+    enum-told-2
+    read-unicast-requires
+    returns-3
+    returns-4
+    returns-5)

@@ -1,0 +1,42 @@
+-- Document 01, "Frames": the fields of a request, document 01's ranges for them, and the published layouts.
+--   Basic request, 8 bytes: 04, sequence, command, four argument bytes (A, B, C, D), sum.
+--   Request 40, 11 bytes: 04, sequence, 40, length 06, port high, port low, four IPv4 bytes, sum.
+use Prim.Native.Nat.{ℕ, _+_, _*_, _/_, _%_, _<_}
+use mathlib.Core.Path.{_≡_}
+use mathlib.Core.Bool.{true}
+use mathlib.Core.List.{List, [], _∷_}
+use Rattle.sum.specs.Bytes.{Bytes}
+use Rattle.frame.specs.Frame.{sealed}
+use Rattle.command.specs.declared.Rule.{Rule}
+use Rattle.command.specs.declared.Shape.the-variants.{Basic}
+use Rattle.command.specs.Command.{shapeOf}
+use Rattle.command.specs.Arguments.{fits}
+
+-- the number of two bytes, high byte first, and the two bytes of a number
+abbrev pub pair : ℕ → ℕ → ℕ
+pair high low = high * 256 + low
+
+abbrev pub high : ℕ → ℕ
+high n = n / 256
+
+abbrev pub low : ℕ → ℕ
+low n = n % 256
+
+-- a request's fields: sequence, command, A, B, C, D; or sequence, port and the four bytes of an address
+pub data Fields : Type 0 where
+  basic : ℕ → ℕ → ℕ → ℕ → ℕ → ℕ → Fields
+  unicast : ℕ → ℕ → ℕ → ℕ → ℕ → ℕ → Fields
+
+-- the ranges: a basic request's command has a rule, and its arguments keep it; request 40 takes any port and address
+pub data InRange : Fields → Type 0 where
+  basic-fits : {s k a b c d : ℕ} (rule : Rule) → shapeOf k ≡ Basic rule → fits rule a b c d ≡ true → Bytes (s ∷ k ∷ a ∷ b ∷ c ∷ d ∷ []) → InRange (basic s k a b c d)
+  unicast-fits : {s port i j k l : ℕ} → port < 65536 → Bytes (s ∷ i ∷ j ∷ k ∷ l ∷ []) → InRange (unicast s port i j k l)
+
+-- the bytes in front of the sum
+abbrev pub head : Fields → List ℕ
+head (basic s k a b c d) = 0x04 ∷ s ∷ k ∷ a ∷ b ∷ c ∷ d ∷ []
+head (unicast s port i j k l) = 0x04 ∷ s ∷ 0x40 ∷ 0x06 ∷ high port ∷ low port ∷ i ∷ j ∷ k ∷ l ∷ []
+
+-- a request's datagram
+abbrev pub layout : Fields → List ℕ
+layout f = sealed (head f)

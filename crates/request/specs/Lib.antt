@@ -1,0 +1,5 @@
+pub mod Layout
+pub mod Meaning
+pub mod Reading
+pub mod Writing
+pub mod Demand2
