@@ -68,4 +68,4 @@ ranged f s kss lo (suc n) t x r h l =
   where
     here : lo ≡ x → s ≡ f x
     here e = subst (λ (m : ℕ). s ≡ f m) e (elim (either-yes (isKey kss lo) (eqb (f lo) s) (both-left (either (isKey kss lo) (eqb (f lo) s)) (between f s kss (suc lo) n) t))
-      [ inl a ↦ absurd (no-key kss x r (subst (λ (m : ℕ). T (isKey kss m)) e a)) | inr b ↦ sym (eqb→eq (f lo) s b) ])
+        [ inl a ↦ absurd (no-key kss x r (subst (λ (m : ℕ). T (isKey kss m)) e a)) | inr b ↦ sym (eqb→eq (f lo) s b) ])

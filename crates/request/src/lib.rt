@@ -8,7 +8,6 @@ ghost use Rattle.request.specs.Meaning.{meaningOf};
 ghost use Rattle.request.specs.Reading.{said, readRequest, readBasic, readUnicast};
 ghost use Rattle.request.specs.Layout.{pair};
 ghost use Rattle.request.specs.Writing.{basicFrame, unicastFrame};
-
 use command::Rule;
 use command::Shape;
 use frame::Wrote;
@@ -33,22 +32,54 @@ pub enum Meaning {
     Nothing,
     Group(Group),
     Emit(u8),
-    Timers { device: Device, instance: u8 },
-    GroupScene { group: Group, scene: u8 },
-    Channel { universe: u8, channel: u16 },
-    Filter { address: u8, instance: u8, mask: u16 },
-    Query { address: u8, start: u8, instance: u8 },
+    Timers {
+        device: Device,
+        instance: u8,
+    },
+    GroupScene {
+        group: Group,
+        scene: u8,
+    },
+    Channel {
+        universe: u8,
+        channel: u16,
+    },
+    Filter {
+        address: u8,
+        instance: u8,
+        mask: u16,
+    },
+    Query {
+        address: u8,
+        start: u8,
+        instance: u8,
+    },
     Gear(u8),
-    Inhibit { lights: Lights, seconds: u16 },
-    Scene { lights: Lights, scene: u8 },
-    Level { lights: Lights, level: u8 },
+    Inhibit {
+        lights: Lights,
+        seconds: u16,
+    },
+    Scene {
+        lights: Lights,
+        scene: u8,
+    },
+    Level {
+        lights: Lights,
+        level: u8,
+    },
     Lit(Lights),
 }
 
 // What a request holds behind its header.
 pub enum Contents {
-    Basic { arguments: Arguments, meaning: Meaning },
-    Unicast { port: u16, address: Ipv4 },
+    Basic {
+        arguments: Arguments,
+        meaning: Meaning,
+    },
+    Unicast {
+        port: u16,
+        address: Ipv4,
+    },
 }
 
 pub struct Request {
@@ -78,15 +109,41 @@ fn meaning_of(rule: Rule, a: u8, b: u8, c: u8, d: u8) -> Meaning
         Rule::Group => Meaning::Group(Group(a)),
         Rule::Emit => Meaning::Emit(a),
         Rule::Bare => Meaning::Nothing,
-        Rule::Timers => Meaning::Timers { device: Device(a), instance: d },
-        Rule::GroupScene => Meaning::GroupScene { group: Group(a), scene: b },
-        Rule::Channel => Meaning::Channel { universe: b, channel: wide(c, d) },
-        Rule::Filter => Meaning::Filter { address: a, instance: b, mask: wide(c, d) },
-        Rule::Query => Meaning::Query { address: a, start: b, instance: d },
+        Rule::Timers => Meaning::Timers {
+            device: Device(a),
+            instance: d,
+        },
+        Rule::GroupScene => Meaning::GroupScene {
+            group: Group(a),
+            scene: b,
+        },
+        Rule::Channel => Meaning::Channel {
+            universe: b,
+            channel: wide(c, d),
+        },
+        Rule::Filter => Meaning::Filter {
+            address: a,
+            instance: b,
+            mask: wide(c, d),
+        },
+        Rule::Query => Meaning::Query {
+            address: a,
+            start: b,
+            instance: d,
+        },
         Rule::Gear => Meaning::Gear(a),
-        Rule::Inhibit => Meaning::Inhibit { lights: LineTarget(a).lights(), seconds: wide(c, d) },
-        Rule::Scene => Meaning::Scene { lights: LineTarget(a).lights(), scene: d },
-        Rule::Level => Meaning::Level { lights: LineTarget(a).lights(), level: d },
+        Rule::Inhibit => Meaning::Inhibit {
+            lights: LineTarget(a).lights(),
+            seconds: wide(c, d),
+        },
+        Rule::Scene => Meaning::Scene {
+            lights: LineTarget(a).lights(),
+            scene: d,
+        },
+        Rule::Level => Meaning::Level {
+            lights: LineTarget(a).lights(),
+            level: d,
+        },
         Rule::Lights => Meaning::Lit(LineTarget(a).lights()),
         Rule::Address => Meaning::Lit(LineTarget(a).lights()),
         Rule::Status => Meaning::Lit(LineTarget(a).status()),
@@ -115,7 +172,10 @@ fn read_basic(rule: Rule, s: &[u8]) -> Reading
     Reading::Accepted(Request {
         sequence: s[1],
         command: s[2],
-        contents: Contents::Basic { arguments: Arguments { a, b, c, d }, meaning },
+        contents: Contents::Basic {
+            arguments: Arguments { a, b, c, d },
+            meaning,
+        },
     })
 }
 
@@ -137,7 +197,10 @@ fn read_unicast(s: &[u8]) -> Reading
     Reading::Accepted(Request {
         sequence: s[1],
         command: s[2],
-        contents: Contents::Unicast { port, address: Ipv4(s[6], s[7], s[8], s[9]) },
+        contents: Contents::Unicast {
+            port,
+            address: Ipv4(s[6], s[7], s[8], s[9]),
+        },
     })
 }
 
@@ -188,6 +251,17 @@ pub fn write_unicast(sequence: u8, port: u16, address: Ipv4, out: &mut [u8]) -> 
 {
     let high = (port / 256) as u8;
     let low = (port % 256) as u8;
-    let head = [4, sequence, 0x40, 6, high, low, address.0, address.1, address.2, address.3];
+    let head = [
+        4,
+        sequence,
+        0x40,
+        6,
+        high,
+        low,
+        address.0,
+        address.1,
+        address.2,
+        address.3,
+    ];
     frame::write(&head, b"", out)
 }

@@ -3,66 +3,48 @@ use borrow.Author.Tests.{not-true, not-false}
 use Rattle.frame.specs.Written.{refuses, passes}
 use Rattle.request.proofs.write_basic.Statement.{statement}
 use Rattle.request.proofs.write_basic.Tie as tie
-use Rattle.request.proofs.write_basic.Reads as reads
-use Rattle.request.proofs.write_basic.Lts as lts
-use Rattle.command.proofs.fits.Reads as fits-reads
-use Rattle.command.proofs.shape_of.Reads as shape-of-reads
-use Rattle.frame.proofs.write.Reads as write-reads
 
--- src/lib.rt:167:9
 shape-of-requires : tie.Need-shape-of-requires
 shape-of-requires c κs = search needs
 
--- src/lib.rt:169:22
 enum-known-shape : tie.Need-enum-known-shape
 enum-known-shape c = search needs
 
--- src/lib.rt:174:17
 fits-requires : tie.Need-fits-requires
 fits-requires c κs = search needs
 
--- src/lib.rt:175:17
 returns : tie.Need-returns
 returns c =
     refuses (c .before .before .before .before .before .before .before .args .out .now)
     (rw (← c .before .before .before .before .before .shape-of .ensures, c .before .before .before .shape .given .1, ← c .before .fits2 .ensures, not-true (c .before .fits2 .result) (c .if1 .taken)))
 
--- src/lib.rt:178:26
 slice-aggregate-write : tie.Need-slice-aggregate-write
 slice-aggregate-write c = search needs
 
--- src/lib.rt:178:33
 slice-aggregate-write-2 : tie.Need-slice-aggregate-write-2
 slice-aggregate-write-2 c = search needs
 
--- src/lib.rt:178:13
 write-requires : tie.Need-write-requires
 write-requires c κs = search needs
 
--- src/lib.rt:180:27
 enum-told : tie.Need-enum-told
 enum-told c = search needs
 
--- src/lib.rt:181:27
 enum-told-2 : tie.Need-enum-told-2
 enum-told-2 c = search needs
 
--- src/lib.rt:164:1
 same-length : tie.Need-same-length
 same-length c = search needs
 
--- src/lib.rt:164:1
 returns-2 : tie.Need-returns-2
 returns-2 c =
     passes
     (rw (← c .before .before .before .before .before .before .before .before .before .before .before .shape-of .ensures, c .before .before .before .before .before .before .before .before .before .shape .given .1, ← c .before .before .before .before .before .before .before .fits2 .ensures, not-false (c .before .before .before .before .before .before .before .fits2 .result) (c .before .before .before .before .before .before .if1 .left)))
     (c .before .before .write .ensures)
 
--- src/lib.rt:164:1
 returns-3 : tie.Need-returns-3
 returns-3 c = refuses (c .before .before .before .before .args .out .now) (rw (← c .before .before .shape-of .ensures, c .enum-told .given .1))
 
--- src/lib.rt:164:1
 returns-4 : tie.Need-returns-4
 returns-4 c = refuses (c .before .before .before .before .args .out .now) (rw (← c .before .before .shape-of .ensures, c .enum-told2 .given .1))
 

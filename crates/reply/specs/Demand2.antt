@@ -1,0 +1,96 @@
+-- Demand 2 for replies: a datagram is accepted exactly when it is a frame by the published layout, the exclusive-or rule and
+-- document 01's ranges; reading a written frame gives its fields back; writing a frame that was read gives its bytes back.
+use Prim.Native.Nat.{ℕ, _+_, _≤_, _<_}
+use mathlib.Core.Path.{_≡_, refl, sym, ap, _∙_}
+use mathlib.Core.Bool.{Bool, true, false}
+use mathlib.Core.List.{List, [], _∷_, _++_}
+use lib.ListN.{length, take, drop, length-append, length-take, length-drop}
+use lib.Seq.{take-append-seam}
+use lib.Dec.{leb, eqb}
+use borrow.Author.Tests.{leb-true, eqb-true, eq-eqb, le-leb}
+use native.Mathlib.Omega.{arith}
+use Rattle.refusal.specs.Answer.{Answer, refused, full, demand, demand-elim, full-one}
+use Rattle.sum.specs.Bytes.{Bytes, bytes-cons, bytes-head, bytes-tail, bytes-take, bytes-drop}
+use Rattle.sum.specs.Sum.{sumOf}
+use Rattle.frame.specs.Frame.{sealed, sealed-sum, sealed-length, sealed-bytes, opened}
+use Rattle.reply.specs.Layout.{Fields, reply, isReply, InRange, reply-fits, head, layout}
+use Rattle.reply.specs.Reading.{byte, readReply, fieldsOf}
+use Rattle.reply.specs.Writing.{replyFrame}
+use Rattle.reply.specs.declared.Reply.{Reply}
+
+abbrev pub frameOf : Fields → Answer (List ℕ)
+frameOf (reply t s l) = replyFrame t s l
+
+-- a reading that gives back some fields
+pub record Reads (d : List ℕ) (f : Fields) : Type 0 where
+  pub reading : Reply
+  pub accepted : readReply d ≡ full reading
+  pub fields : fieldsOf reading d ≡ f
+
+-- each layout reads as its fields
+reply-reads : (t s : ℕ) (l : List ℕ) → isReply t ≡ true → length l ≤ 64 → Reads (layout (reply t s l)) (reply t s l)
+unfolding readReply
+reply-reads t s l h m =
+    let x : List ℕ = layout (reply t s l) in
+    let n : length x ≡ length l + 4 = omega (arith, sealed-length (head (reply t s l))) in
+    let four : 4 ≤ length x = omega arith in
+    let z : sumOf x ≡ 0 = sealed-sum (head (reply t s l)) in
+    record {
+      reading = record { kind = t; sequence = s; n = length l };
+      accepted = rw (le-leb 4 (length x) four, h, le-leb (length l) 64 m, eq-eqb (length x) (length l + 4) n, eq-eqb (sumOf x) 0 z);
+      fields = ap (reply t s) (take-append-seam l (sumOf (head (reply t s l)) ∷ []));
+    }
+
+-- READING A WRITTEN FRAME GIVES ITS FIELDS BACK
+pub read-written : (f : Fields) (x : List ℕ) → frameOf f ≡ full x → Reads x f
+unfolding replyFrame
+read-written (reply t s l) x =
+    demand-elim (isReply t) 2
+    (λ h. demand-elim (leb (length l) 64) 4
+    (λ m e. let o : layout (reply t s l) ≡ x = full-one e in rw o at (reply-reads t s l h (leb-true (length l) 64 m))))
+
+-- in range: the frame is the layout
+in-range-written : {f : Fields} → InRange f → frameOf f ≡ full (layout f)
+unfolding replyFrame
+in-range-written (reply-fits {t} {s} {l} h m b) = rw (h, le-leb (length l) 64 m)
+
+-- AN ACCEPTED DATAGRAM IS A FRAME: the fields that it gives are in range, and it is their layout
+pub accepted-frame : (d : List ℕ) (r : Reply) → Bytes d → readReply d ≡ full r → InRange (fieldsOf r d) × (d ≡ layout (fieldsOf r d))
+unfolding readReply
+accepted-frame d r bs =
+    demand-elim (leb 4 (length d)) 1
+    (λ h₁. demand-elim (isReply (byte 0 d)) 2
+    (λ h₂. demand-elim (leb (byte 2 d) 64) 4
+    (λ h₄. demand-elim (eqb (length d) (byte 2 d + 4)) 5
+    (λ h₅. demand-elim (eqb (sumOf d) 0) 6
+    (λ h₆ e.
+    let n : ℕ = byte 2 d in
+    let long = eqb-true (length d) (n + 4) h₅ in
+    let l : List ℕ = take n (drop 3 d) in
+    let size : length l ≡ n = simp (length-take, length-drop) (omega arith) in
+    let o : d ≡ layout (reply (byte 0 d) (byte 1 d) l) = rw size (opened 3 n d (omega arith) (eqb-true (sumOf d) 0 h₆)) in
+    let m = leb-true n 64 h₄ in
+    let b : Bytes (byte 0 d ∷ byte 1 d ∷ l) = bytes-cons (bs .byte 0) (bytes-cons (bs .byte 1) (bytes-take n (drop 3 d) (bytes-drop 3 d bs))) in
+    let short : length l ≤ 64 = omega arith in
+    rw (← full-one e) (reply-fits h₂ short b, o))))))
+
+-- and EACH FRAME IS ACCEPTED, and is a run of bytes
+pub frame-accepted : (f : Fields) → InRange f → Reads (layout f) f
+frame-accepted f i = read-written f (layout f) (in-range-written i)
+
+pub frame-bytes : {f : Fields} → InRange f → Bytes (layout f)
+frame-bytes (reply-fits {t} {s} {l} h m b) =
+    sealed-bytes (bytes-cons (bytes-head b) (bytes-cons (bytes-head (bytes-tail b)) (bytes-cons {b = length l} (omega arith) (bytes-tail (bytes-tail b)))))
+
+-- the fields of a datagram are unique
+pub fields-one : (f g : Fields) → InRange f → InRange g → layout f ≡ layout g → f ≡ g
+fields-one f g i j e =
+    let a = frame-accepted f i in
+    let b : Reads (layout f) g = rw e (frame-accepted g j) in
+    sym (a .fields) ∙ ap (λ (r : Reply). fieldsOf r (layout f)) (full-one (sym (a .accepted) ∙ b .accepted)) ∙ b .fields
+
+-- WRITING A FRAME THAT WAS READ GIVES ITS BYTES BACK (into a buffer that is long enough: written-whole of crate frame)
+pub written-read : (d : List ℕ) (r : Reply) → Bytes d → readReply d ≡ full r → frameOf (fieldsOf r d) ≡ full d
+written-read d r bs e =
+    let w = accepted-frame d r bs e in
+    in-range-written (w .0) ∙ ap full (sym (w .1))

@@ -1,0 +1,125 @@
+-- What a datagram says as a reply. Document 01, "Refusals, by number": 1, 2, 4, 5, 6, the lowest that applies.
+use Prim.Native.Nat.{ℕ, _+_, _≤_, _<_}
+use mathlib.Core.Path.{_≡_, refl, sym, ap, _∙_}
+use mathlib.Core.Bool.{Bool, true, false}
+use mathlib.Core.List.{List, []}
+use lib.ListN.{length, getD, take, drop}
+use lib.Dec.{leb, eqb}
+use borrow.Author.Tests.{leb-true, eqb-true}
+use native.Mathlib.Omega.{arith}
+use Rattle.refusal.specs.Test.{pick}
+use Rattle.refusal.specs.Answer.{Answer, refused, full, demand, demand-elim, full-one, determined}
+use Rattle.sum.specs.Sum.{sumOf}
+use Rattle.error.specs.Error.{nameOf}
+use Rattle.error.specs.declared.Name.{Name}
+use Rattle.error.specs.declared.Name.the-variants.{Number as name·Number, Nothing}
+use Rattle.reply.specs.Layout.{Fields, reply, isReply}
+use Rattle.reply.specs.declared.Reply.{Reply}
+use Rattle.reply.specs.declared.Reading.{Reading}
+use Rattle.reply.specs.declared.Reading.the-variants.{Accepted, Refused}
+use Rattle.reply.specs.declared.Code as code
+use Rattle.reply.specs.declared.Code.the-variants.{Named, Number, Absent, Refused as code·Refused}
+
+-- document 01's number and values for each case of a reading
+abbrev pub said : Reading → Answer Reply
+said (Refused k) = refused k
+said (Accepted r) = full r
+
+-- it leaves no choice
+back : Answer Reply → Reading
+back (refused k) = Refused k
+back (full r) = Accepted r
+
+pub read-one : {v : Answer Reply} (x y : Reading) → said x ≡ v → said y ≡ v → x ≡ y
+unfolding back
+read-one x y = determined said back inverse x y
+  where
+    inverse : (x : Reading) → back (said x) ≡ x
+    inverse (Refused k) = refl
+    inverse (Accepted r) = refl
+
+-- the byte at a place of a datagram
+abbrev pub byte : ℕ → List ℕ → ℕ
+byte i d = getD d i 0
+
+unfoldable pub readReply : List ℕ → Answer Reply
+readReply d =
+    demand (leb 4 (length d)) 1
+    (demand (isReply (byte 0 d)) 2
+    (demand (leb (byte 2 d) 64) 4
+    (demand (eqb (length d) (byte 2 d + 4)) 5
+    (demand (eqb (sumOf d) 0) 6
+    (full (record { kind = byte 0 d; sequence = byte 1 d; n = byte 2 d }))))))
+
+-- "the data part, asked of a refused datagram, is empty"
+abbrev pub dataIn : Answer Reply → List ℕ → List ℕ
+dataIn (refused k) d = []
+dataIn (full r) d = take (r .n) (drop 3 d)
+
+abbrev pub dataOf : List ℕ → List ℕ
+dataOf d = dataIn (readReply d) d
+
+-- the fields of a datagram with some reading
+abbrev pub fieldsOf : Reply → List ℕ → Fields
+fieldsOf r d = reply (r .kind) (r .sequence) (take (r .n) (drop 3 d))
+
+-- an error code: with the number of its name, or kept as a number, or none
+pub data ErrorCode : Type 0 where
+  named : ℕ → ℕ → ErrorCode
+  number : ℕ → ErrorCode
+  absent : ErrorCode
+
+-- document 01's number and values for each case of a code
+abbrev pub saidCode : code.Code → Answer ErrorCode
+saidCode (code·Refused k) = refused k
+saidCode (Named c n) = full (named c n)
+saidCode (Number c) = full (number c)
+saidCode Absent = full absent
+
+backCode : Answer ErrorCode → code.Code
+backCode (refused k) = code·Refused k
+backCode (full (named c n)) = Named c n
+backCode (full (number c)) = Number c
+backCode (full absent) = Absent
+
+pub code-one : {v : Answer ErrorCode} (x y : code.Code) → saidCode x ≡ v → saidCode y ≡ v → x ≡ y
+unfolding backCode
+code-one x y = determined saidCode backCode inverse x y
+  where
+    inverse : (x : code.Code) → backCode (saidCode x) ≡ x
+    inverse (code·Refused k) = refl
+    inverse (Named c n) = refl
+    inverse (Number c) = refl
+    inverse Absent = refl
+
+-- "names from a fixed table; another code in an ERROR reply is kept as a number"
+abbrev pub codeNamed : ℕ → Name → ErrorCode
+codeNamed c (name·Number n) = named c n
+codeNamed c Nothing = number c
+
+-- "an ERROR reply may have no code; the code is its first data byte. Replies of other types have none."
+abbrev pub codeIn : Answer Reply → List ℕ → Answer ErrorCode
+codeIn (refused k) d = refused k
+codeIn (full r) d = full (pick (eqb (r .kind) 0xA3) (pick (eqb (r .n) 0) absent (codeNamed (byte 3 d) (nameOf (byte 3 d)))) absent)
+
+abbrev pub codeOf : List ℕ → Answer ErrorCode
+codeOf d = codeIn (readReply d) d
+
+-- what is known of a datagram whose reading was looked at
+pub told : (d : List ℕ) (x : Reading) {v : Reading} → said x ≡ readReply d → x ≡ v → readReply d ≡ said v
+told d x e f = sym e ∙ ap said f
+
+-- an accepted reply has its data
+pub read-fits : (d : List ℕ) (r : Reply) → readReply d ≡ full r → (length d ≡ r .n + 4) × (r .n ≤ 64)
+unfolding readReply
+read-fits d r =
+    demand-elim (leb 4 (length d)) 1
+    (λ h₁. demand-elim (isReply (byte 0 d)) 2
+    (λ h₂. demand-elim (leb (byte 2 d) 64) 4
+    (λ h₄. demand-elim (eqb (length d) (byte 2 d + 4)) 5
+    (λ h₅. demand-elim (eqb (sumOf d) 0) 6
+    (λ h₆ e.
+    let z : byte 2 d ≡ r .n = ap (λ (x : Reply). x .n) (full-one e) in
+    let l = eqb-true (length d) (byte 2 d + 4) h₅ in
+    let m = leb-true (byte 2 d) 64 h₄ in
+    (omega arith, omega arith))))))
