@@ -1,0 +1,6 @@
+pub mod Big
+pub mod Types
+pub mod Layout
+pub mod Reading
+pub mod Writing
+pub mod Demand2
