@@ -1,0 +1,18 @@
+use Rattle.maps.specs.Order.{numberOf}
+use native.Mathlib.Omega.{arith}
+use borrow.Author.Needs.{needs}
+use Rattle.maps.proofs.high_first.Statement.{statement}
+use Rattle.maps.proofs.high_first.Tie as tie
+
+mul-result : tie.Need-mul-result
+mul-result c = search needs
+
+add-result : tie.Need-add-result
+add-result c = search needs
+
+returns : tie.Need-returns
+unfolding numberOf
+returns c = omega arith
+
+pub high-first-spec : {M : Type 1} → statement M
+high-first-spec = tie.close (tie.spec mul-result add-result returns)
