@@ -6,7 +6,7 @@ use mathlib.Core.Path.{_≡_, refl, sym, ap, _∙_}
 use mathlib.Core.Bool.{Bool, true, false, not, _&&_}
 use mathlib.Core.List.{List, [], _∷_, _++_, append-assoc}
 use lib.ListN.{length, getD, take, drop, length-append, length-take, length-drop}
-use lib.Seq.{take-append-seam, drop-append-seam, getD-append-add, drop-append-add}
+use lib.Seq.{take-append-seam, take-at, drop-at, getD-at, take-add}
 use lib.Dec.{leb, ltb, eqb}
 use borrow.Author.Tests.{leb-true, ltb-true, eqb-true, not-true}
 use native.Mathlib.Nat.{add-suc, add-zero}
@@ -15,7 +15,7 @@ use Rattle.refusal.specs.Test.{both-left, both-right}
 use Rattle.refusal.specs.Answer.{Answer, refused, full, demand, demand-elim, full-one}
 use Rattle.sum.specs.Bytes.{Bytes, bytes-none, bytes-cons, bytes-append, bytes-head, bytes-tail, bytes-take, bytes-drop}
 use Rattle.sum.specs.Sum.{sumOf}
-use Rattle.frame.specs.Frame.{sealed, sealed-sum, sealed-length, sealed-bytes, listed, opened}
+use Rattle.frame.specs.Frame.{sealed, sealed-sum, sealed-bytes, listed, listed-take, length-listed, listed-append, opened}
 use Rattle.event.specs.Big.{big, bigBytes, length-big, big-bytes, bytes-big, big-lt, big-are-bytes}
 use Rattle.event.specs.Types.{typeOf, numberOf, number-kept, lacks, instanceOf}
 use Rattle.event.specs.Layout.{Fields, event, InRange, event-fits, typeAt, countAt, dataAt, macBytes, lead, head, layout}
@@ -33,19 +33,157 @@ pub record Reads (w : ℕ) (d : List ℕ) (f : Fields) : Type 0 where
   pub accepted : readEvent w d ≡ full reading
   pub fields : fieldsOf w reading d ≡ f
 
--- some bytes of a run, listed one by one, are that run
-listed-cons : (b : ℕ) (d : List ℕ) (i n : ℕ) → listed (suc i) n (b ∷ d) ≡ listed i n d
-listed-cons b d i zero = refl
-listed-cons b d i (suc n) = ap (λ (l : List ℕ). getD d i 0 ∷ l) (listed-cons b d (suc i) n)
-
-listed-all : (s t : List ℕ) → listed 0 (length s) (s ++ t) ≡ s
-listed-all [] t = refl
-listed-all (b ∷ s) t = ap (λ (l : List ℕ). b ∷ l) (listed-cons b (s ++ t) 0 (length s) ∙ listed-all s t)
+regroup : (a b c d : List ℕ) → ((a ++ b) ++ c) ++ d ≡ a ++ (b ++ (c ++ d))
+regroup a b c d = simp append-assoc
 
 -- each layout reads as its fields
-module _ (w : ℕ) (m : Mac) (t k : ℕ) (l : List ℕ) where
+module _ (w : ℕ) (m : Mac) (t k : ℕ) (l : List ℕ) (short : length l ≤ 48) (small : t < 256 ^ w) (has : lacks k (length l) ≡ false) where
   x : List ℕ
   x = layout w (event m t k l)
 
+  z : ℕ
+  z = sumOf (head w (event m t k l))
+
+  -- the bytes in front of the type
   front : List ℕ
-  front = 0x5A ∷ 0x43 ∷ macBytes m
+  front = 0x5A ∷ 0x43 ∷ m .0 ∷ m .1 ∷ m .2 ∷ m .3 ∷ m .4 ∷ m .5 ∷ bigBytes w t
+
+  front-long : length front ≡ typeAt w
+  unfolding front
+  front-long = omega (arith, length-big w t)
+
+  whole : x ≡ front ++ (k ∷ length l ∷ (l ++ (z ∷ [])))
+  unfolding x z front
+  whole = regroup front (k ∷ length l ∷ []) l (z ∷ [])
+
+  at-type : byte (typeAt w) x ≡ k
+  at-type = rw whole (getD-at front k (length l ∷ (l ++ (z ∷ []))) 0 (typeAt w) front-long)
+
+  at-count : byte (countAt w) x ≡ length l
+  at-count =
+      let n : length (front ++ (k ∷ [])) ≡ countAt w = simp length-append (omega (arith, front-long)) in
+      rw (whole, ← append-assoc front (k ∷ []) (length l ∷ (l ++ (z ∷ [])))) (getD-at (front ++ (k ∷ [])) (length l) (l ++ (z ∷ [])) 0 (countAt w) n)
+
+  at-data : take (length l) (drop (dataAt w) x) ≡ l
+  at-data =
+      let n : length (front ++ (k ∷ length l ∷ [])) ≡ dataAt w = simp length-append (omega (arith, front-long)) in
+      rw (whole, ← append-assoc front (k ∷ length l ∷ []) (l ++ (z ∷ [])), drop-at (front ++ (k ∷ length l ∷ [])) (l ++ (z ∷ [])) (dataAt w) n) (take-append-seam l (z ∷ []))
+
+  long : length x ≡ length l + (11 + w)
+  long = rw whole (simp length-append (omega (arith, front-long)))
+
+  at-target : listed 8 w x ≡ bigBytes w t
+  unfolding front
+  at-target =
+      sym (listed-take 8 w x (omega (arith, long)))
+      ∙ rw whole (take-at (bigBytes w t) (k ∷ length l ∷ (l ++ (z ∷ []))) w (length-big w t))
+
+  event-reads : Reads w x (event m t k l)
+  unfolding x
+  event-reads =
+      record {
+        reading = eventIn w x;
+        accepted =
+            sym
+            (accepts w x (eventIn w x) (omega (arith, long)) refl refl (rw at-count short) (rw at-count long) (sealed-sum (head w (event m t k l)))
+            (rw (at-type, at-count) has) refl);
+        fields = rw (at-count, at-target, number-kept (byte (typeAt w) x), at-type, at-data, big-bytes w t small);
+      }
+
+-- READING A WRITTEN FRAME GIVES ITS FIELDS BACK
+pub read-written : (w : ℕ) (f : Fields) (d : List ℕ) → frameOf w f ≡ full d → Reads w d f
+unfolding eventFrame x
+read-written w (event m t k l) d =
+    demand-elim (leb (length l) 48) 4
+    (λ h₄. demand-elim (ltb t (256 ^ w)) 7
+    (λ h₇. demand-elim (not (lacks k (length l))) 7
+    (λ i e.
+    let o : layout w (event m t k l) ≡ d = full-one e in
+    rw o at (event-reads w m t k l (leb-true (length l) 48 h₄) (ltb-true t (256 ^ w) h₇) (not-true (lacks k (length l)) i)))))
+
+-- in range: the frame is the layout
+in-range-written : {w : ℕ} {f : Fields} → InRange w f → frameOf w f ≡ full (layout w f)
+in-range-written {w} (event-fits {m} {t} {k} {l} h₄ h₇ i a b) = frames w m t k l h₄ h₇ i
+
+first-two : {a b : ℕ} {l : List ℕ} → a ≡ 0x5A → b ≡ 0x43 → _≡_ {A = List ℕ} (a ∷ b ∷ l) (0x5A ∷ 0x43 ∷ l)
+first-two p q = cc
+
+mac-bytes : (d : List ℕ) → Bytes d → Bytes (macBytes (macOf d))
+mac-bytes d bs =
+    let w = bs .byte in
+    bytes-cons (w 2) (bytes-cons (w 3) (bytes-cons (w 4) (bytes-cons (w 5) (bytes-cons (w 6) (bytes-cons (w 7) bytes-none)))))
+
+-- the bytes of a datagram in front of its data, one by one
+module _ (w : ℕ) (d : List ℕ) (bs : Bytes d) (z : byte 0 d ≡ 0x5A) (c : byte 1 d ≡ 0x43) (room : dataAt w ≤ length d) where
+  target-bytes : Bytes (listed 8 w d)
+  target-bytes = rw (listed-take 8 w d (omega arith)) at (bytes-take w (drop 8 d) (bytes-drop 8 d bs))
+
+  target-back : bigBytes w (big (listed 8 w d)) ≡ listed 8 w d
+  target-back = bytes-big w (listed 8 w d) (length-listed 8 w d) target-bytes
+
+  lead-listed : listed 0 (dataAt w) d ≡ lead w (macOf d) (big (listed 8 w d)) (byte (typeAt w) d) (byte (countAt w) d)
+  lead-listed =
+      let e : dataAt w ≡ 8 + (w + 2) = omega arith in
+      let g : List ℕ = listed 8 w d in
+      let n : List ℕ = listed (8 + w) 2 d in
+      ap (λ (n : ℕ). listed 0 n d) e
+      ∙ listed-append 0 8 (w + 2) d
+      ∙ ap (λ (l : List ℕ). listed 0 8 d ++ l) (listed-append 8 w 2 d)
+      ∙ sym (append-assoc (listed 0 8 d) g n)
+      ∙ ap (λ (l : List ℕ). (listed 0 8 d ++ l) ++ n) (sym target-back)
+      ∙ first-two z c
+
+-- AN ACCEPTED DATAGRAM IS A FRAME: the fields that it gives are in range, and it is their layout
+pub accepted-frame : (w : ℕ) (d : List ℕ) (r : Event) → Bytes d → readEvent w d ≡ full r → InRange w (fieldsOf w r d) × (d ≡ layout w (fieldsOf w r d))
+unfolding readEvent
+accepted-frame w d r bs =
+    demand-elim (leb (11 + w) (length d)) 1
+    (λ h₁. demand-elim (eqb (byte 0 d) 0x5A && eqb (byte 1 d) 0x43) 2
+    (λ h₂. demand-elim (leb (byte (countAt w) d) 48) 4
+    (λ h₄. demand-elim (eqb (length d) (byte (countAt w) d + (11 + w))) 5
+    (λ h₅. demand-elim (eqb (sumOf d) 0) 6
+    (λ h₆. demand-elim (not (lacks (byte (typeAt w) d) (byte (countAt w) d))) 7
+    (λ h₇ e.
+    let k : ℕ = byte (typeAt w) d in
+    let n : ℕ = byte (countAt w) d in
+    let t : ℕ = big (listed 8 w d) in
+    let l : List ℕ = take n (drop (dataAt w) d) in
+    let long = eqb-true (length d) (n + (11 + w)) h₅ in
+    let room : dataAt w ≤ length d = omega arith in
+    let z = eqb-true (byte 0 d) 0x5A (both-left (eqb (byte 0 d) 0x5A) (eqb (byte 1 d) 0x43) h₂) in
+    let c = eqb-true (byte 1 d) 0x43 (both-right (eqb (byte 0 d) 0x5A) (eqb (byte 1 d) 0x43) h₂) in
+    let size : length l ≡ n = simp (length-take, length-drop) (omega arith) in
+    let short : length l ≤ 48 = omega (arith, leb-true n 48 h₄) in
+    let small : t < 256 ^ w = big-lt w (listed 8 w d) (length-listed 8 w d) (target-bytes w d bs z c room) in
+    let has : lacks k (length l) ≡ false = rw size (not-true (lacks k n) h₇) in
+    let o : d ≡ layout w (event (macOf d) t k l) =
+    opened (dataAt w) n d (omega arith) (eqb-true (sumOf d) 0 h₆)
+    ∙ ap (λ (p : List ℕ). sealed (p ++ l)) (lead-listed w d bs z c room ∙ ap (lead w (macOf d) t k) (sym size)) in
+    let b : Bytes (k ∷ l) = bytes-cons (bs .byte (typeAt w)) (bytes-take n (drop (dataAt w) d) (bytes-drop (dataAt w) d bs)) in
+    rw (← full-one e, number-kept k) (event-fits short small has (mac-bytes d bs) b, o)))))))
+
+-- and EACH FRAME IS ACCEPTED, and is a run of bytes
+pub frame-accepted : (w : ℕ) (f : Fields) → InRange w f → Reads w (layout w f) f
+frame-accepted w f i = read-written w f (layout w f) (in-range-written i)
+
+pub frame-bytes : {w : ℕ} {f : Fields} → InRange w f → Bytes (layout w f)
+frame-bytes {w} (event-fits {m} {t} {k} {l} h₄ h₇ i a b) =
+    sealed-bytes
+    (bytes-append (lead w m t k (length l))
+    (bytes-append ((0x5A ∷ 0x43 ∷ macBytes m) ++ bigBytes w t)
+    (bytes-append (0x5A ∷ 0x43 ∷ macBytes m) (bytes-cons (omega arith) (bytes-cons (omega arith) a)) (big-are-bytes w t))
+    (bytes-cons (bytes-head b) (bytes-cons {b = length l} (omega arith) bytes-none)))
+    (bytes-tail b))
+
+-- the fields of a datagram are unique
+pub fields-one : (w : ℕ) (f g : Fields) → InRange w f → InRange w g → layout w f ≡ layout w g → f ≡ g
+fields-one w f g i j e =
+    let a = frame-accepted w f i in
+    let b : Reads w (layout w f) g = rw e (frame-accepted w g j) in
+    sym (a .fields) ∙ ap (λ (r : Event). fieldsOf w r (layout w f)) (full-one (sym (a .accepted) ∙ b .accepted)) ∙ b .fields
+
+-- WRITING A FRAME THAT WAS READ GIVES ITS BYTES BACK (into a buffer that is long enough: written-whole of crate frame)
+pub written-read : (w : ℕ) (d : List ℕ) (r : Event) → Bytes d → readEvent w d ≡ full r → frameOf w (fieldsOf w r d) ≡ full d
+written-read w d r bs e =
+    let v = accepted-frame w d r bs e in
+    in-range-written (v .0) ∙ ap full (sym (v .1))

@@ -4,7 +4,7 @@ use mathlib.Core.Path.{_≡_, refl, sym, ap, _∙_}
 use mathlib.Core.List.{List, [], _∷_, _++_}
 use lib.ListN.{length, getD, take, drop, length-append, take-append-drop, length-drop, drop-of-length-le}
 use lib.Seq.{drop-cons, take-add}
-use native.Mathlib.Nat.{add-suc, suc-add}
+use native.Mathlib.Nat.{add-suc, suc-add, add-zero, zero-add}
 use native.Mathlib.Omega.{arith}
 use Rattle.sum.specs.Bytes.{Bytes, bytes-none, bytes-cons, bytes-append}
 use Rattle.sum.specs.Sum.{sumOf, sum-closed, sum-closes, sum-byte}
@@ -36,11 +36,21 @@ abbrev pub listed : ℕ → ℕ → List ℕ → List ℕ
 listed i zero d = []
 listed i (suc n) d = getD d i 0 ∷ listed (suc i) n d
 
-listed-take : (i n : ℕ) (d : List ℕ) → i + n ≤ length d → take n (drop i d) ≡ listed i n d
+pub listed-take : (i n : ℕ) (d : List ℕ) → i + n ≤ length d → take n (drop i d) ≡ listed i n d
 listed-take i zero d h = refl
 listed-take i (suc n) d h =
     let l : suc i + n ≤ length d = omega (arith, add-suc i n, suc-add i n) in
     rw (drop-cons d i 0 (omega arith)) (ap (λ (l : List ℕ). getD d i 0 ∷ l) (listed-take (suc i) n d l))
+
+pub length-listed : (i n : ℕ) (d : List ℕ) → length (listed i n d) ≡ n
+length-listed i zero d = refl
+length-listed i (suc n) d = ap suc (length-listed (suc i) n d)
+
+pub listed-append : (i m n : ℕ) (d : List ℕ) → listed i (m + n) d ≡ listed i m d ++ listed (i + m) n d
+listed-append i zero n d = rw (zero-add n, add-zero i)
+listed-append i (suc m) n d =
+    let e : suc i + m ≡ i + suc m = omega arith in
+    rw suc-add (ap (λ (l : List ℕ). getD d i 0 ∷ l) (listed-append (suc i) m n d ∙ rw e))
 
 -- a datagram of h + n + 1 bytes whose exclusive-or is 0: its first h bytes one by one, then n bytes, then their sum
 pub opened : (h n : ℕ) (d : List ℕ) → length d ≡ h + n + 1 → sumOf d ≡ 0 → d ≡ sealed (listed 0 h d ++ take n (drop h d))
