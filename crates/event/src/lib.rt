@@ -8,7 +8,6 @@ ghost use Rattle.event.specs.Types.{typeOf, numberOf, instanceOf};
 ghost use Rattle.event.specs.Reading.{said, eventIn, readEvent, dataOf};
 ghost use Rattle.event.specs.Writing.{eventFrame};
 ghost use Rattle.event.specs.Big.{three};
-
 use frame::Wrote;
 
 // The MAC address of a controller, in the order in which it is written.
@@ -186,7 +185,19 @@ pub fn write(mac: Mac, target: u32, kind: u8, data: &[u8], out: &mut [u8]) -> Wr
     let middle = (target / 256 % 256) as u8;
     let low = (target % 256) as u8;
     let head = [
-        0x5A, 0x43, mac.0, mac.1, mac.2, mac.3, mac.4, mac.5, high, middle, low, kind, n as u8,
+        0x5A,
+        0x43,
+        mac.0,
+        mac.1,
+        mac.2,
+        mac.3,
+        mac.4,
+        mac.5,
+        high,
+        middle,
+        low,
+        kind,
+        n as u8,
     ];
     frame::write(&head, data, out)
 }
