@@ -16,7 +16,8 @@ use Rattle.refusal.specs.Answer.{Answer, refused, full, demand, demand-elim, fu
 use Rattle.sum.specs.Bytes.{Bytes, bytes-none, bytes-cons, bytes-append, bytes-head, bytes-tail, bytes-take, bytes-drop}
 use Rattle.sum.specs.Sum.{sumOf}
 use Rattle.frame.specs.Frame.{sealed, sealed-sum, sealed-bytes, listed, listed-take, length-listed, listed-append, opened}
-use Rattle.event.specs.Big.{big, bigBytes, length-big, big-bytes, bytes-big, big-lt, big-are-bytes}
+use Rattle.order.specs.Order.{highFirst, numberIn}
+use Rattle.order.specs.Big.{bigBytes, big-is, length-big, big-bytes, bytes-big, big-lt, big-are-bytes}
 use Rattle.event.specs.Types.{typeOf, numberOf, number-kept, lacks, instanceOf}
 use Rattle.event.specs.Layout.{Fields, event, InRange, event-fits, typeAt, countAt, dataAt, macBytes, lead, head, layout}
 use Rattle.event.specs.Reading.{byte, macOf, eventIn, readEvent, fieldsOf, accepts}
@@ -87,7 +88,7 @@ module _ (w : ℕ) (m : Mac) (t k : ℕ) (l : List ℕ) (short : length l ≤ 48
             sym
             (accepts w x (eventIn w x) (omega (arith, long)) refl refl (rw at-count short) (rw at-count long) (sealed-sum (head w (event m t k l)))
             (rw (at-type, at-count) has) refl);
-        fields = rw (at-count, at-target, number-kept (byte (typeAt w) x), at-type, at-data, big-bytes w t small);
+        fields = rw (at-count, at-target, number-kept (byte (typeAt w) x), at-type, at-data, ← big-is w (bigBytes w t) (length-big w t), big-bytes w t small);
       }
 
 -- READING A WRITTEN FRAME GIVES ITS FIELDS BACK
@@ -118,10 +119,10 @@ module _ (w : ℕ) (d : List ℕ) (bs : Bytes d) (z : byte 0 d ≡ 0x5A) (c : by
   target-bytes : Bytes (listed 8 w d)
   target-bytes = rw (listed-take 8 w d (omega arith)) at (bytes-take w (drop 8 d) (bytes-drop 8 d bs))
 
-  target-back : bigBytes w (big (listed 8 w d)) ≡ listed 8 w d
-  target-back = bytes-big w (listed 8 w d) (length-listed 8 w d) target-bytes
+  target-back : bigBytes w (numberIn highFirst w (listed 8 w d)) ≡ listed 8 w d
+  target-back = rw (← big-is w (listed 8 w d) (length-listed 8 w d)) (bytes-big w (listed 8 w d) (length-listed 8 w d) target-bytes)
 
-  lead-listed : listed 0 (dataAt w) d ≡ lead w (macOf d) (big (listed 8 w d)) (byte (typeAt w) d) (byte (countAt w) d)
+  lead-listed : listed 0 (dataAt w) d ≡ lead w (macOf d) (numberIn highFirst w (listed 8 w d)) (byte (typeAt w) d) (byte (countAt w) d)
   lead-listed =
       let e : dataAt w ≡ 8 + (w + 2) = omega arith in
       let g : List ℕ = listed 8 w d in
@@ -146,7 +147,7 @@ accepted-frame w d r bs =
     (λ h₇ e.
     let k : ℕ = byte (typeAt w) d in
     let n : ℕ = byte (countAt w) d in
-    let t : ℕ = big (listed 8 w d) in
+    let t : ℕ = numberIn highFirst w (listed 8 w d) in
     let l : List ℕ = take n (drop (dataAt w) d) in
     let long = eqb-true (length d) (n + (11 + w)) h₅ in
     let room : dataAt w ≤ length d = omega arith in
@@ -154,7 +155,7 @@ accepted-frame w d r bs =
     let c = eqb-true (byte 1 d) 0x43 (both-right (eqb (byte 0 d) 0x5A) (eqb (byte 1 d) 0x43) h₂) in
     let size : length l ≡ n = simp (length-take, length-drop) (omega arith) in
     let short : length l ≤ 48 = omega (arith, leb-true n 48 h₄) in
-    let small : t < 256 ^ w = big-lt w (listed 8 w d) (length-listed 8 w d) (target-bytes w d bs z c room) in
+    let small : t < 256 ^ w = rw (← big-is w (listed 8 w d) (length-listed 8 w d)) (big-lt w (listed 8 w d) (length-listed 8 w d) (target-bytes w d bs z c room)) in
     let has : lacks k (length l) ≡ false = rw size (not-true (lacks k n) h₇) in
     let o : d ≡ layout w (event (macOf d) t k l) =
     opened (dataAt w) n d (omega arith) (eqb-true (sumOf d) 0 h₆)

@@ -8,7 +8,7 @@ use mathlib.Core.List.{List, [], _∷_, _++_}
 use lib.ListN.{length}
 use Rattle.sum.specs.Bytes.{Bytes}
 use Rattle.frame.specs.Frame.{sealed}
-use Rattle.event.specs.Big.{bigBytes}
+use Rattle.order.specs.Big.{bigBytes}
 use Rattle.event.specs.Types.{lacks}
 use Rattle.event.specs.declared.Mac.{Mac}
 

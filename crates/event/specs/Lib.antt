@@ -1,4 +1,3 @@
-pub mod Big
 pub mod Types
 pub mod Layout
 pub mod Reading

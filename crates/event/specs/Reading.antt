@@ -10,7 +10,7 @@ use native.Mathlib.Omega.{arith}
 use Rattle.refusal.specs.Answer.{Answer, refused, full, demand, demand-elim, full-one, determined}
 use Rattle.sum.specs.Sum.{sumOf}
 use Rattle.frame.specs.Frame.{listed}
-use Rattle.event.specs.Big.{big}
+use Rattle.order.specs.Order.{highFirst, numberIn}
 use Rattle.event.specs.Types.{typeOf, numberOf, lacks, instanceOf}
 use Rattle.event.specs.Layout.{Fields, event, typeAt, countAt, dataAt}
 use Rattle.event.specs.declared.Mac.{Mac}
@@ -43,12 +43,12 @@ byte i d = getD d i 0
 abbrev pub macOf : List ℕ → Mac
 macOf d = record { 0 = byte 2 d; 1 = byte 3 d; 2 = byte 4 d; 3 = byte 5 d; 4 = byte 6 d; 5 = byte 7 d }
 
--- the reading of an accepted datagram
+-- the reading of an accepted datagram. "The target as a number is big-endian (our choice)."
 abbrev pub eventIn : ℕ → List ℕ → Event
 eventIn w d =
     record {
       mac = macOf d;
-      target = big (listed 8 w d);
+      target = numberIn highFirst w (listed 8 w d);
       kind = typeOf (byte (typeAt w) d);
       n = byte (countAt w) d;
       instance = instanceOf (byte (typeAt w) d) (byte (dataAt w) d);

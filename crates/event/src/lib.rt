@@ -7,7 +7,6 @@ ghost use Rattle.frame.specs.Written.{Written};
 ghost use Rattle.event.specs.Types.{typeOf, numberOf, instanceOf};
 ghost use Rattle.event.specs.Reading.{said, eventIn, readEvent, dataOf};
 ghost use Rattle.event.specs.Writing.{eventFrame};
-ghost use Rattle.event.specs.Big.{three};
 use frame::Wrote;
 
 // The MAC address of a controller, in the order in which it is written.
@@ -100,13 +99,6 @@ fn instance_of(kind: u8, first: u8) -> Instance
     }
 }
 
-// The number of three bytes, high byte first.
-fn wide(high: u8, middle: u8, low: u8) -> u32
-    ensures { λ r. ⌜ r ≡ three high middle low ⌝ }
-{
-    ((high as u32) * 256 + (middle as u32)) * 256 + (low as u32)
-}
-
 // The reading of a datagram that was found to be an event.
 fn event_in(s: &[u8]) -> Event
     requires { ⌜ 14 ≤ length (now s) ⌝ }
@@ -115,7 +107,7 @@ fn event_in(s: &[u8]) -> Event
     let kind = s[11];
     Event {
         mac: Mac(s[2], s[3], s[4], s[5], s[6], s[7]),
-        target: wide(s[8], s[9], s[10]),
+        target: order::high_first_of_three(s[8], s[9], s[10]),
         kind: EventType::of(kind),
         n: s[12] as usize,
         instance: instance_of(kind, s[13]),

@@ -6,7 +6,7 @@ use mathlib.Core.List.{List, [], _∷_}
 use lib.Dec.{leb, ltb, eqb}
 use lib.ListN.{length, getD}
 use Rattle.refusal.specs.Answer.{Answer, refused, full, demand}
-use Rattle.maps.specs.Order.{highFirst, numberIn}
+use Rattle.order.specs.Order.{highFirst, numberIn}
 use Rattle.filters.specs.declared.Filters as filters
 use Rattle.filters.specs.declared.Filter.{Filter}
 use Rattle.filters.specs.declared.Held.{Held}

@@ -10,7 +10,7 @@ use borrow.Author.Tests.{eq-eqb, le-leb, lt-ltb, eqb-true, leb-true}
 use native.Mathlib.Nat.{add-zero}
 use native.Mathlib.Omega.{arith}
 use Rattle.refusal.specs.Answer.{Answer, full, demand-elim}
-use Rattle.maps.specs.Order.{highFirst, numberIn, numberOf}
+use Rattle.order.specs.Order.{highFirst, numberIn, numberOf}
 use Rattle.filters.specs.declared.Filters as filters
 use Rattle.filters.specs.declared.Filter.{Filter}
 use Rattle.filters.specs.Filters.{countIn, sized, filtersOf, entryOf}

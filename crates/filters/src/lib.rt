@@ -1,5 +1,5 @@
 // The filters in the reply to 32: a mode byte, then up to 15 entries of four bytes. The entries are handed back as they
-// stand: no address, instance or mask is judged. It leans on maps for an entry's event mask.
+// stand: no address, instance or mask is judged. It leans on order for an entry's event mask.
 // Document 01, "Four orders in reply data".
 ghost use mathlib.Core.Path.{_≡_};
 ghost use Rattle.filters.specs.Filters.{saidFilters, saidEntry, filtersOf, entryOf};
@@ -68,7 +68,7 @@ pub fn entry(s: &[u8], i: usize) -> Found
     let instance = s[at + 1];
     let high = s[at + 2];
     let low = s[at + 3];
-    let mask = maps::high_first(high, low);
+    let mask = order::high_first(high, low);
     Found::Entry(Filter {
         address,
         instance,

@@ -4,7 +4,7 @@ use mathlib.Core.Path.{_≡_}
 use lib.Pow.{pow-add}
 use native.Mathlib.Nat.{zero-add, one-mul, suc-add, mul-assoc}
 use native.Mathlib.Omega.{arith}
-use Rattle.maps.specs.Order.{numberOf}
+use Rattle.order.specs.Order.{numberOf}
 
 pub number-append : (m n : ℕ) (f : ℕ → ℕ) → numberOf f m + 2 ^ (8 * m) * numberOf (λ j. f (m + j)) n ≡ numberOf f (m + n)
 unfolding numberOf

@@ -1,5 +1,5 @@
 pub mod Bit
-pub mod Order
+pub mod Places
 pub mod Said
 pub mod Maps
 pub mod Placed

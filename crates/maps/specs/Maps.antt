@@ -7,7 +7,7 @@ use lib.Dec.{eqb}
 use lib.ListN.{length}
 use Rattle.refusal.specs.Answer.{Answer, full, demand}
 use Rattle.maps.specs.Bit.{bit, howMany, lowest}
-use Rattle.maps.specs.Order.{Order, highFirst, lowFirst, numberIn}
+use Rattle.order.specs.Order.{Order, highFirst, lowFirst, numberIn}
 
 -- the number of a run of n bytes in an order; another size is 11
 abbrev pub mapOf : Order → ℕ → List ℕ → Answer ℕ

@@ -12,7 +12,8 @@ use native.Mathlib.Omega.{arith}
 use Rattle.refusal.specs.Answer.{refused, full, demand-elim, full-one}
 use Rattle.sum.specs.Bytes.{Bytes}
 use Rattle.maps.specs.Bit.{bit, howMany, Least, bit-two, howMany-same, lowest-least, least-same, bits-one, bits-none, bit-of-zero}
-use Rattle.maps.specs.Order.{Order, highFirst, lowFirst, placeOf, byteOf, placed, numberIn, number-fits, number-bit}
+use Rattle.order.specs.Order.{Order, highFirst, lowFirst, placeOf, byteOf, numberIn, number-fits}
+use Rattle.maps.specs.Places.{placed, number-bit}
 use Rattle.maps.specs.Maps.{mapOf, maskOf, scenesOf, gearOf, typesOf, countOf, lowestOf}
 
 -- the lowest of a number of w bits is set, and none below it is; it is refused exactly where none is set

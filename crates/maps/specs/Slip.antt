@@ -8,7 +8,7 @@ use lib.ListN.{getD}
 use native.Mathlib.Omega.{arith}
 use Rattle.sum.specs.Bytes.{Bytes, bytes-none, bytes-cons}
 use Rattle.maps.specs.Bit.{bit, howMany}
-use Rattle.maps.specs.Order.{highFirst, lowFirst, byteOf, numberIn, numberOf, number-bytes, number-same}
+use Rattle.order.specs.Order.{highFirst, lowFirst, byteOf, numberIn, numberOf, number-bytes, number-same}
 use Rattle.maps.specs.Maps.{countOf}
 
 pub orders-agree : (n : ℕ) {s : List ℕ} → Bytes s → (numberIn highFirst n s ≡ numberIn lowFirst n s) ↔ ((j : ℕ) → j < n → getD s (n - 1 - j) 0 ≡ getD s j 0)

@@ -1,10 +1,11 @@
 // Maps in reply data: the event mask, the scenes of a group, the gear present and the gear types. Each is some bytes, in the
 // order that the maker gave it, and is handed back as one number whose bit k stands for event type, scene, gear or gear
-// type k. It leans on the words of refusal, and on sum for what a run of bytes is.
+// type k. It leans on the words of refusal, on order for the
+// numbers of bytes, and on sum for what a run of bytes is.
 // Document 01, "Four orders in reply data".
 ghost use mathlib.Core.Path.{_≡_};
 ghost use mathlib.Core.List.{[], _∷_};
-ghost use Rattle.maps.specs.Order.{highFirst, lowFirst, numberIn};
+ghost use Rattle.order.specs.Order.{lowFirst, numberIn};
 ghost use Rattle.maps.specs.Maps.{maskOf, scenesOf, gearOf, typesOf, countOf, lowestOf};
 ghost use Rattle.maps.specs.Said.{said16, said32, said64, saidLowest};
 
@@ -39,13 +40,6 @@ pub enum Lowest {
     Refused(u8),
 }
 
-// The number of two bytes, high byte first.
-pub fn high_first(high: u8, low: u8) -> u16
-    ensures { λ r. ⌜ r ≡ numberIn highFirst 2 (high ∷ low ∷ []) ⌝ }
-{
-    (high as u16) * 256 + (low as u16)
-}
-
 // The number of four bytes, low byte first.
 fn low_first(a: u8, b: u8, c: u8, d: u8) -> u32
     ensures { λ r. ⌜ r ≡ numberIn lowFirst 4 (a ∷ b ∷ c ∷ d ∷ []) ⌝ }
@@ -62,7 +56,7 @@ pub fn mask(s: &[u8]) -> Map16
     }
     let high = s[0];
     let low = s[1];
-    Map16::Bits(high_first(high, low))
+    Map16::Bits(order::high_first(high, low))
 }
 
 // How many event types a mask names.
@@ -91,7 +85,7 @@ pub fn scenes(s: &[u8]) -> Map16
     }
     let from8 = s[0];
     let from0 = s[1];
-    Map16::Bits(high_first(from8, from0))
+    Map16::Bits(order::high_first(from8, from0))
 }
 
 // The gear present, from the eight bytes of the reply to 1D; 11 for another size.

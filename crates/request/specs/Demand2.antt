@@ -12,6 +12,7 @@ use Rattle.refusal.specs.Answer.{Answer, refused, full, demand, demand-elim, fu
 use Rattle.sum.specs.Bytes.{Bytes, bytes-none, bytes-cons, bytes-head, bytes-tail}
 use Rattle.sum.specs.Sum.{sumOf}
 use Rattle.frame.specs.Frame.{sealed, sealed-sum, sealed-bytes, opened}
+use Rattle.order.specs.Order.{numberOf}
 use Rattle.command.specs.declared.Rule.{Rule}
 use Rattle.command.specs.declared.Shape.{Shape}
 use Rattle.command.specs.declared.Shape.the-variants.{Unknown, Basic, Unicast}
@@ -35,10 +36,16 @@ pub record Reads (d : List ℕ) (f : Fields) : Type 0 where
   pub fields : fieldsOf reading ≡ f
 
 pair-high : (h l : ℕ) → h < 256 → l < 256 → high (pair h l) ≡ h
+unfolding numberOf
 pair-high h l a b = omega arith
 
 pair-low : (h l : ℕ) → l < 256 → low (pair h l) ≡ l
+unfolding numberOf
 pair-low h l b = omega arith
+
+pair-fits : (h l : ℕ) → h < 256 → l < 256 → pair h l < 65536
+unfolding numberOf
+pair-fits h l a b = omega arith
 
 -- each layout reads as its fields
 basic-reads : (rule : Rule) (s k a b c d : ℕ) → shapeOf k ≡ Basic rule → fits rule a b c d ≡ true → Reads (layout (basic s k a b c d)) (basic s k a b c d)
@@ -54,7 +61,7 @@ basic-reads rule s k a b c d h f =
     }
 
 unicast-reads : (s port i j k l : ℕ) → Reads (layout (unicast s port i j k l)) (unicast s port i j k l)
-unfolding readUnicast shapeOf
+unfolding readUnicast shapeOf numberOf
 unicast-reads s port i j k l =
     let x : List ℕ = layout (unicast s port i j k l) in
     let z : sumOf x ≡ 0 = sealed-sum (head (unicast s port i j k l)) in
@@ -106,7 +113,7 @@ unicast-frame d r bs lead h =
     (λ z e.
     let w = bs .byte in
     let port : ℕ = pair (byte 4 d) (byte 5 d) in
-    let p : port < 65536 = omega (arith, w 4, w 5) in
+    let p : port < 65536 = pair-fits (byte 4 d) (byte 5 d) (w 4) (w 5) in
     let hi : byte 4 d ≡ high port = sym (pair-high (byte 4 d) (byte 5 d) (w 4) (w 5)) in
     let lo : byte 5 d ≡ low port = sym (pair-low (byte 4 d) (byte 5 d) (w 5)) in
     let o : d ≡ layout (unicast (byte 1 d) port (byte 6 d) (byte 7 d) (byte 8 d) (byte 9 d)) =

@@ -1,12 +1,13 @@
 -- Document 01, "Frames": the fields of a request, document 01's ranges for them, and the published layouts.
 --   Basic request, 8 bytes: 04, sequence, command, four argument bytes (A, B, C, D), sum.
 --   Request 40, 11 bytes: 04, sequence, 40, length 06, port high, port low, four IPv4 bytes, sum.
-use Prim.Native.Nat.{ℕ, _+_, _*_, _/_, _%_, _<_}
+use Prim.Native.Nat.{ℕ, _/_, _%_, _<_}
 use mathlib.Core.Path.{_≡_}
 use mathlib.Core.Bool.{true}
 use mathlib.Core.List.{List, [], _∷_}
 use Rattle.sum.specs.Bytes.{Bytes}
 use Rattle.frame.specs.Frame.{sealed}
+use Rattle.order.specs.Order.{highFirst, numberIn}
 use Rattle.command.specs.declared.Rule.{Rule}
 use Rattle.command.specs.declared.Shape.the-variants.{Basic}
 use Rattle.command.specs.Command.{shapeOf}
@@ -14,7 +15,7 @@ use Rattle.command.specs.Arguments.{fits}
 
 -- the number of two bytes, high byte first, and the two bytes of a number
 abbrev pub pair : ℕ → ℕ → ℕ
-pair high low = high * 256 + low
+pair high low = numberIn highFirst 2 (high ∷ low ∷ [])
 
 abbrev pub high : ℕ → ℕ
 high n = n / 256

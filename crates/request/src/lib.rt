@@ -6,7 +6,6 @@ ghost use lib.ListN.{length};
 ghost use Rattle.frame.specs.Written.{Written};
 ghost use Rattle.request.specs.Meaning.{meaningOf};
 ghost use Rattle.request.specs.Reading.{said, readRequest, readBasic, readUnicast};
-ghost use Rattle.request.specs.Layout.{pair};
 ghost use Rattle.request.specs.Writing.{basicFrame, unicastFrame};
 use command::Rule;
 use command::Shape;
@@ -94,13 +93,6 @@ pub enum Reading {
     Refused(u8),
 }
 
-// The number of two bytes, high byte first.
-fn wide(high: u8, low: u8) -> u16
-    ensures { λ r. ⌜ r ≡ pair high low ⌝ }
-{
-    (high as u16) * 256 + (low as u16)
-}
-
 // What four arguments mean under a rule.
 fn meaning_of(rule: Rule, a: u8, b: u8, c: u8, d: u8) -> Meaning
     ensures { λ r. ⌜ r ≡ meaningOf rule a b c d ⌝ }
@@ -119,12 +111,12 @@ fn meaning_of(rule: Rule, a: u8, b: u8, c: u8, d: u8) -> Meaning
         },
         Rule::Channel => Meaning::Channel {
             universe: b,
-            channel: wide(c, d),
+            channel: order::high_first(c, d),
         },
         Rule::Filter => Meaning::Filter {
             address: a,
             instance: b,
-            mask: wide(c, d),
+            mask: order::high_first(c, d),
         },
         Rule::Query => Meaning::Query {
             address: a,
@@ -134,7 +126,7 @@ fn meaning_of(rule: Rule, a: u8, b: u8, c: u8, d: u8) -> Meaning
         Rule::Gear => Meaning::Gear(a),
         Rule::Inhibit => Meaning::Inhibit {
             lights: LineTarget(a).lights(),
-            seconds: wide(c, d),
+            seconds: order::high_first(c, d),
         },
         Rule::Scene => Meaning::Scene {
             lights: LineTarget(a).lights(),
@@ -193,7 +185,7 @@ fn read_unicast(s: &[u8]) -> Reading
     if sum::xor(s) != 0 {
         return Reading::Refused(6);
     }
-    let port = wide(s[4], s[5]);
+    let port = order::high_first(s[4], s[5]);
     Reading::Accepted(Request {
         sequence: s[1],
         command: s[2],

@@ -1,13 +1,9 @@
 use Rattle.event.proofs.instance_of.Statement.{statement}
 use Rattle.event.proofs.instance_of.Tie as tie
-use Rattle.event.proofs.instance_of.Reads as reads
-use Rattle.event.proofs.instance_of.Lts as lts
 
--- src/lib.rt:92:1
 returns : tie.Need-returns
 returns c = rw (c .if1 .taken)
 
--- src/lib.rt:92:1
 returns-2 : tie.Need-returns-2
 returns-2 c = rw (c .if1 .left)
 

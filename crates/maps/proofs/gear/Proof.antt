@@ -1,6 +1,6 @@
 use Prim.Native.Nat.{_+_, _*_}
 use mathlib.Core.Path.{_≡_}
-use Rattle.maps.specs.Order.{lowFirst, byteOf, numberOf, numberIn}
+use Rattle.order.specs.Order.{lowFirst, byteOf, numberOf, numberIn}
 use Rattle.refusal.specs.Test.{tests}
 use borrow.Author.Needs.{needs}
 use Rattle.maps.proofs.Append.{number-append}

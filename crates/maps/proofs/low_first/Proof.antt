@@ -1,4 +1,4 @@
-use Rattle.maps.specs.Order.{numberOf}
+use Rattle.order.specs.Order.{numberOf}
 use native.Mathlib.Omega.{arith}
 use borrow.Author.Needs.{needs}
 use Rattle.maps.proofs.low_first.Statement.{statement}

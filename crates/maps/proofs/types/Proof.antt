@@ -1,4 +1,4 @@
-use Rattle.maps.specs.Order.{numberOf}
+use Rattle.order.specs.Order.{numberOf}
 use Rattle.refusal.specs.Test.{tests}
 use borrow.Author.Needs.{needs}
 use Rattle.maps.proofs.types.Statement.{statement}

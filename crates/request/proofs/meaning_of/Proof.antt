@@ -22,14 +22,14 @@ enum-told-5 c = search needs
 enum-told-6 : tie.Need-enum-told-6
 enum-told-6 c = search needs
 
-wide-requires : tie.Need-wide-requires
-wide-requires c κs = search needs
+high-first-requires : tie.Need-high-first-requires
+high-first-requires c κs = search needs
 
 enum-told-7 : tie.Need-enum-told-7
 enum-told-7 c = search needs
 
-wide-requires-2 : tie.Need-wide-requires-2
-wide-requires-2 c κs = search needs
+high-first-requires-2 : tie.Need-high-first-requires-2
+high-first-requires-2 c κs = search needs
 
 enum-told-8 : tie.Need-enum-told-8
 enum-told-8 c = search needs
@@ -43,8 +43,8 @@ enum-told-10 c = search needs
 lights-requires : tie.Need-lights-requires
 lights-requires c κs = search needs
 
-wide-requires-3 : tie.Need-wide-requires-3
-wide-requires-3 c κs = search needs
+high-first-requires-3 : tie.Need-high-first-requires-3
+high-first-requires-3 c κs = search needs
 
 enum-told-11 : tie.Need-enum-told-11
 enum-told-11 c = search needs
@@ -98,11 +98,11 @@ returns-5 c = rw (c .enum-told5 .given .1)
 
 returns-6 : tie.Need-returns-6
 unfolding meaningOf
-returns-6 c = rw (c .wide .ensures, c .before .enum-told6 .given .1)
+returns-6 c = rw (c .high-first .ensures, c .before .enum-told6 .given .1)
 
 returns-7 : tie.Need-returns-7
 unfolding meaningOf
-returns-7 c = rw (c .wide2 .ensures, c .before .enum-told7 .given .1)
+returns-7 c = rw (c .high-first2 .ensures, c .before .enum-told7 .given .1)
 
 returns-8 : tie.Need-returns-8
 unfolding meaningOf
@@ -114,7 +114,7 @@ returns-9 c = rw (c .enum-told9 .given .1)
 
 returns-10 : tie.Need-returns-10
 unfolding meaningOf
-returns-10 c = rw (c .before .lights .ensures, c .wide3 .ensures, c .before .before .enum-told10 .given .1)
+returns-10 c = rw (c .before .lights .ensures, c .high-first3 .ensures, c .before .before .enum-told10 .given .1)
 
 returns-11 : tie.Need-returns-11
 unfolding meaningOf
@@ -146,14 +146,14 @@ meaning-of-spec =
     enum-told-4
     enum-told-5
     enum-told-6
-    wide-requires
+    high-first-requires
     enum-told-7
-    wide-requires-2
+    high-first-requires-2
     enum-told-8
     enum-told-9
     enum-told-10
     lights-requires
-    wide-requires-3
+    high-first-requires-3
     enum-told-11
     lights-requires-2
     enum-told-12

@@ -22,14 +22,14 @@ returns-3 : tie.Need-returns-3
 unfolding readUnicast
 returns-3 c = search (← c .before .xor .ensures, tests, needs)
 
-shared-slice-read-wide : tie.Need-shared-slice-read-wide
-shared-slice-read-wide c = search needs
+shared-slice-read-high-first : tie.Need-shared-slice-read-high-first
+shared-slice-read-high-first c = search needs
 
-shared-slice-read-wide-2 : tie.Need-shared-slice-read-wide-2
-shared-slice-read-wide-2 c = search needs
+shared-slice-read-high-first-2 : tie.Need-shared-slice-read-high-first-2
+shared-slice-read-high-first-2 c = search needs
 
-wide-requires : tie.Need-wide-requires
-wide-requires c κs = search needs
+high-first-requires : tie.Need-high-first-requires
+high-first-requires c κs = search needs
 
 shared-slice-read-t4 : tie.Need-shared-slice-read-t4
 shared-slice-read-t4 c = search needs
@@ -51,7 +51,7 @@ shared-slice-read-t19 c = search needs
 
 returns-4 : tie.Need-returns-4
 unfolding readUnicast
-returns-4 c = search (← c .before .before .before .before .before .before .before .before .before .before .xor .ensures, ← c .before .before .before .before .before .before .wide .ensures, tests, needs)
+returns-4 c = search (← c .before .before .before .before .before .before .before .before .before .before .xor .ensures, ← c .before .before .before .before .before .before .high-first .ensures, tests, needs)
 
 pub read-unicast-spec : {M : Type 1} → statement M
 read-unicast-spec =
@@ -62,9 +62,9 @@ read-unicast-spec =
     returns-2
     xor-requires
     returns-3
-    shared-slice-read-wide
-    shared-slice-read-wide-2
-    wide-requires
+    shared-slice-read-high-first
+    shared-slice-read-high-first-2
+    high-first-requires
     shared-slice-read-t4
     shared-slice-read-t9
     shared-slice-read-t13

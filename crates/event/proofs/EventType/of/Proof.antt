@@ -2,60 +2,47 @@ use borrow.Author.Tests.{ne-eqb}
 use Rattle.event.specs.Types.{typeOf}
 use Rattle.event.proofs.EventType.of.Statement.{statement}
 use Rattle.event.proofs.EventType.of.Tie as tie
-use Rattle.event.proofs.EventType.of.Reads as reads
-use Rattle.event.proofs.EventType.of.Lts as lts
 
--- src/lib.rt:53:5
 returns : tie.Need-returns
 unfolding typeOf
 returns c = rw (c .match .keys1)
 
--- src/lib.rt:53:5
 returns-2 : tie.Need-returns-2
 unfolding typeOf
 returns-2 c = rw (c .match .keys2)
 
--- src/lib.rt:53:5
 returns-3 : tie.Need-returns-3
 unfolding typeOf
 returns-3 c = rw (c .match .keys3)
 
--- src/lib.rt:53:5
 returns-4 : tie.Need-returns-4
 unfolding typeOf
 returns-4 c = rw (c .match .keys4)
 
--- src/lib.rt:53:5
 returns-5 : tie.Need-returns-5
 unfolding typeOf
 returns-5 c = rw (c .match .keys5)
 
--- src/lib.rt:53:5
 returns-6 : tie.Need-returns-6
 unfolding typeOf
 returns-6 c = rw (c .match .keys6)
 
--- src/lib.rt:53:5
 returns-7 : tie.Need-returns-7
 unfolding typeOf
 returns-7 c = rw (c .match .keys7)
 
--- src/lib.rt:53:5
 returns-8 : tie.Need-returns-8
 unfolding typeOf
 returns-8 c = rw (c .match .keys8)
 
--- src/lib.rt:53:5
 returns-9 : tie.Need-returns-9
 unfolding typeOf
 returns-9 c = rw (c .match .keys9)
 
--- src/lib.rt:53:5
 returns-10 : tie.Need-returns-10
 unfolding typeOf
 returns-10 c = rw (c .match .keys10)
 
--- src/lib.rt:53:5
 returns-11 : tie.Need-returns-11
 unfolding typeOf
 returns-11 c =

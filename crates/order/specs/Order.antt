@@ -1,11 +1,11 @@
--- Document 01, "Four orders in reply data": a number in some bytes, "high byte first" or "low byte first".
+-- A number in some bytes, "high byte first" or "low byte first", over any width. Document 01, "Four orders in reply data"; the
+-- arguments of requests and the target of an event are numbers high byte first too.
 use Prim.Native.Nat.{ℕ, zero, suc, _+_, _-_, _*_, _/_, _%_, _^_, _<_}
 use mathlib.Core.Path.{_≡_, refl, sym, ap, ap₂, _∙_}
 use mathlib.Core.List.{List}
 use lib.ListN.{getD}
 use lib.Pow.{pow-add, shr-shr}
 use native.Mathlib.Omega.{arith}
-use Rattle.maps.specs.Bit.{bit, bit-low, bit-high}
 
 -- which byte of a number comes first
 pub data Order : Type 0 where
@@ -30,10 +30,6 @@ numberOf f (suc n) = f 0 + 256 * numberOf (λ j. f (suc j)) n
 abbrev pub numberIn : Order → ℕ → List ℕ → ℕ
 numberIn o n s = numberOf (byteOf o n s) n
 
--- bit k as the maker puts it: bit k mod 8 of the byte that has it
-abbrev pub placed : Order → ℕ → List ℕ → ℕ → ℕ
-placed o n s k = bit (byteOf o n s (k / 8)) (k % 8)
-
 -- a number of n bytes has 8 n bits
 pub number-fits : (n : ℕ) (f : ℕ → ℕ) → ((j : ℕ) → f j < 256) → numberOf f n < 2 ^ (8 * n)
 unfolding numberOf
@@ -43,7 +39,7 @@ number-fits (suc n) f h =
     rw (e, pow-add 2 8 (8 * n)) (omega (arith, h 0, number-fits n (λ j. f (suc j)) (λ j. h (suc j))))
 
 -- its byte j is f j
-number-byte : (n : ℕ) (f : ℕ → ℕ) (j : ℕ) → ((j : ℕ) → f j < 256) → j < n → numberOf f n / 2 ^ (8 * j) % 256 ≡ f j
+pub number-byte : (n : ℕ) (f : ℕ → ℕ) (j : ℕ) → ((j : ℕ) → f j < 256) → j < n → numberOf f n / 2 ^ (8 * j) % 256 ≡ f j
 unfolding numberOf
 number-byte zero f j h l = absurd (omega arith)
 number-byte (suc n) f zero h l = omega (arith, h 0)
@@ -52,15 +48,6 @@ number-byte (suc n) f (suc j) h l =
     let e : 8 * suc j ≡ 8 + 8 * j = omega arith in
     let q : (f 0 + 256 * r) / 256 ≡ r = omega (arith, h 0) in
     rw (e, ← shr-shr (f 0 + 256 * r) 8 (8 * j), q) (number-byte n (λ j. f (suc j)) j (λ j. h (suc j)) (omega arith))
-
--- bit k of a number is bit k mod 8 of its byte k / 8
-pub number-bit : (n : ℕ) (f : ℕ → ℕ) (k : ℕ) → ((j : ℕ) → f j < 256) → k < 8 * n → bit (numberOf f n) k ≡ bit (f (k / 8)) (k % 8)
-number-bit n f k h l =
-    let e : k ≡ 8 * (k / 8) + k % 8 = omega arith in
-    ap (bit (numberOf f n)) e
-    ∙ bit-high (8 * (k / 8)) (numberOf f n) (k % 8)
-    ∙ bit-low 8 (numberOf f n / 2 ^ (8 * (k / 8))) (k % 8) (omega arith)
-    ∙ ap (λ (x : ℕ). bit x (k % 8)) (number-byte n f (k / 8) h (omega arith))
 
 -- and its bytes are told from it
 pub number-bytes : (n : ℕ) (f g : ℕ → ℕ) → ((j : ℕ) → f j < 256) → ((j : ℕ) → g j < 256) → numberOf f n ≡ numberOf g n → (j : ℕ) → j < n → f j ≡ g j

@@ -1,11 +1,13 @@
--- Document 01, "Frames": "The target as a number is big-endian (our choice)." Over any width, high byte first.
-use Prim.Native.Nat.{ℕ, zero, suc, _+_, _*_, _/_, _%_, _^_, _≤_, _<_}
+-- Numbers high byte first once more, in the form in which a run is read from its front: `big` is the number of a run, and `bigBytes` the
+-- bytes of a number. That it is the same number is `big-is`.
+use Prim.Native.Nat.{ℕ, zero, suc, _+_, _-_, _*_, _/_, _%_, _^_, _≤_, _<_}
 use mathlib.Core.Path.{_≡_, refl, sym, ap, _∙_}
 use mathlib.Core.List.{List, [], _∷_, _++_}
 use lib.ListN.{length, getD, take, length-append, length-take}
-use lib.Seq.{take-suc, take-all}
+use lib.Seq.{take-suc, take-all, getD-take}
 use native.Mathlib.Nat.{pow-suc}
 use native.Mathlib.Omega.{arith}
+use Rattle.order.specs.Order.{highFirst, byteOf, numberOf, numberIn, number-same}
 use Rattle.sum.specs.Bytes.{Bytes, bytes-none, bytes-cons, bytes-append, bytes-take}
 
 -- the number of a run of bytes behind x
@@ -21,10 +23,6 @@ big s = bigFrom 0 s
 abbrev pub bigBytes : ℕ → ℕ → List ℕ
 bigBytes zero n = []
 bigBytes (suc w) n = bigBytes w (n / 256) ++ (n % 256 ∷ [])
-
--- of three bytes
-abbrev pub three : ℕ → ℕ → ℕ → ℕ
-three h m l = big (h ∷ m ∷ l ∷ [])
 
 pub length-big : (w n : ℕ) → length (bigBytes w n) ≡ w
 length-big zero n = refl
@@ -70,3 +68,22 @@ big-lt (suc w) s l h =
 pub big-are-bytes : (w n : ℕ) → Bytes (bigBytes w n)
 big-are-bytes zero n = bytes-none
 big-are-bytes (suc w) n = bytes-append (bigBytes w (n / 256)) (big-are-bytes w (n / 256)) (bytes-cons {b = n % 256} (omega arith) bytes-none)
+
+-- the same number as by the order of its bytes
+pub big-is : (w : ℕ) (s : List ℕ) → length s ≡ w → big s ≡ numberIn highFirst w s
+unfolding numberOf
+big-is zero [] l = refl
+big-is zero (b ∷ s) l = absurd (omega arith)
+big-is (suc w) s l =
+    let t : List ℕ = take w s in
+    let e : s ≡ t ++ (getD s w 0 ∷ []) = sym (take-all (suc w) s (omega arith)) ∙ take-suc s w 0 (omega arith) in
+    let lt : length t ≡ w = simp length-take (omega arith) in
+    let last : suc w - 1 - 0 ≡ w = omega arith in
+    let rest : numberIn highFirst w t ≡ numberOf (λ j. byteOf highFirst (suc w) s (suc j)) w = number-same w (byteOf highFirst w t) (λ j. byteOf highFirst (suc w) s (suc j)) before in
+    ap big e ∙ big-snoc 0 t (getD s w 0) ∙ rw (big-is w t lt, rest, last) (omega arith)
+  where
+    before : (j : ℕ) → j < w → byteOf highFirst w (take w s) j ≡ byteOf highFirst (suc w) s (suc j)
+    before j h =
+        let i : w - 1 - j < w = omega arith in
+        let e : w - 1 - j ≡ suc w - 1 - suc j = omega arith in
+        getD-take w s (w - 1 - j) 0 i ∙ ap (λ (k : ℕ). getD s k 0) e

@@ -1,8 +1,8 @@
-use Rattle.maps.specs.Order.{numberOf}
+use Rattle.order.specs.Order.{numberOf}
 use native.Mathlib.Omega.{arith}
 use borrow.Author.Needs.{needs}
-use Rattle.maps.proofs.high_first.Statement.{statement}
-use Rattle.maps.proofs.high_first.Tie as tie
+use Rattle.order.proofs.high_first.Statement.{statement}
+use Rattle.order.proofs.high_first.Tie as tie
 
 mul-result : tie.Need-mul-result
 mul-result c = search needs

@@ -1,0 +1,25 @@
+use Rattle.order.specs.Order.{numberOf}
+use native.Mathlib.Omega.{arith}
+use borrow.Author.Needs.{needs}
+use Rattle.order.proofs.high_first_of_three.Statement.{statement}
+use Rattle.order.proofs.high_first_of_three.Tie as tie
+
+mul-result : tie.Need-mul-result
+mul-result c = search needs
+
+add-result : tie.Need-add-result
+add-result c = search needs
+
+mul-result-2 : tie.Need-mul-result-2
+mul-result-2 c = search needs
+
+add-result-2 : tie.Need-add-result-2
+add-result-2 c = search needs
+
+returns : tie.Need-returns
+unfolding numberOf
+returns c = omega arith
+
+pub high-first-of-three-spec : {M : Type 1} → statement M
+high-first-of-three-spec =
+    tie.close (tie.spec mul-result add-result mul-result-2 add-result-2 returns)
