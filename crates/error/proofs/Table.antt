@@ -7,7 +7,6 @@ use lib.Dec.{eqb}
 use lib.ListN.{length, getD, drop}
 use Rattle.refusal.specs.Test.{pick}
 use Rattle.error.specs.Error.{Entry, entry, table, look}
-use Rattle.error.specs.declared.Name.{Name}
 use Rattle.error.specs.declared.Name.the-variants.{Number}
 
 abbrev pub codes : List ℕ

@@ -1,24 +1,23 @@
 -- Demand 2 for events, over the width of the target: a datagram is accepted exactly when it is a frame by the published layout,
 -- the exclusive-or rule and document 01's ranges; reading a written frame gives its fields back; writing a frame that was read
 -- gives its bytes back.
-use Prim.Native.Nat.{ℕ, zero, suc, _+_, _^_, _≤_, _<_}
+use Prim.Native.Nat.{ℕ, _+_, _^_, _≤_, _<_}
 use mathlib.Core.Path.{_≡_, refl, sym, ap, _∙_}
-use mathlib.Core.Bool.{Bool, true, false, not, _&&_}
+use mathlib.Core.Bool.{false, not, _&&_}
 use mathlib.Core.List.{List, [], _∷_, _++_, append-assoc}
-use lib.ListN.{length, getD, take, drop, length-append, length-take, length-drop}
-use lib.Seq.{take-append-seam, take-at, drop-at, getD-at, take-add}
+use lib.ListN.{length, take, drop, length-append, length-take, length-drop}
+use lib.Seq.{take-append-seam, take-at, drop-at, getD-at}
 use lib.Dec.{leb, ltb, eqb}
 use borrow.Author.Tests.{leb-true, ltb-true, eqb-true, not-true}
-use native.Mathlib.Nat.{add-suc, add-zero}
 use native.Mathlib.Omega.{arith}
 use Rattle.refusal.specs.Test.{both-left, both-right}
-use Rattle.refusal.specs.Answer.{Answer, refused, full, demand, demand-elim, full-one}
+use Rattle.refusal.specs.Answer.{Answer, full, demand-elim, full-one}
 use Rattle.sum.specs.Bytes.{Bytes, bytes-none, bytes-cons, bytes-append, bytes-head, bytes-tail, bytes-take, bytes-drop}
 use Rattle.sum.specs.Sum.{sumOf}
 use Rattle.frame.specs.Frame.{sealed, sealed-sum, sealed-bytes, listed, listed-take, length-listed, listed-append, opened}
 use Rattle.order.specs.Order.{highFirst, numberIn}
 use Rattle.order.specs.Big.{bigBytes, big-is, length-big, big-bytes, bytes-big, big-lt, big-are-bytes}
-use Rattle.event.specs.Types.{typeOf, numberOf, number-kept, lacks, instanceOf}
+use Rattle.event.specs.Types.{number-kept, lacks}
 use Rattle.event.specs.Layout.{Fields, event, InRange, event-fits, typeAt, countAt, dataAt, macBytes, lead, head, layout}
 use Rattle.event.specs.Reading.{byte, macOf, eventIn, readEvent, fieldsOf, accepts}
 use Rattle.event.specs.Writing.{eventFrame, frames}

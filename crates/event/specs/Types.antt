@@ -1,11 +1,10 @@
 -- Document 01: "Event types 0, 1, 2, 6, 7 carry an instance number as first data byte, so they need n of at least 1. Types 0 to 9
 -- have the source's names. Types above 9 are accepted and keep their number, since the maker may append more."
-use Prim.Native.Nat.{ℕ, _≤_, _<_}
+use Prim.Native.Nat.{ℕ}
 use mathlib.Core.Path.{_≡_, refl, sym, _∙_}
 use mathlib.Core.Bool.{Bool, true, false, _&&_, _||_}
 use lib.Dec.{leb, eqb}
 use borrow.Author.Tests.{eqb-true}
-use native.Mathlib.Omega.{arith}
 use Rattle.refusal.specs.Test.{pick}
 use Rattle.event.specs.declared.EventType.{EventType}
 use Rattle.event.specs.declared.EventType.the-variants.{ButtonPress, ButtonHold, AbsoluteInput, LevelChange, GroupLevelChange, SceneChange, IsOccupied, IsUnoccupied, ColourChanged, ProfileChanged, Other}

@@ -8,7 +8,7 @@ use lib.Dec.{leb, ltb}
 use borrow.Author.Tests.{le-leb, lt-ltb}
 use Rattle.refusal.specs.Answer.{Answer, full, demand}
 use Rattle.event.specs.Types.{lacks}
-use Rattle.event.specs.Layout.{Fields, event, layout}
+use Rattle.event.specs.Layout.{event, layout}
 use Rattle.event.specs.declared.Mac.{Mac}
 
 -- "an instance event with n = 0; in writing, an event target too large for its bytes"

@@ -1,7 +1,7 @@
 -- Document 01, "Refusals, by number": "no lent byte and no state changes. A writer returns the count written; bytes after the frame stay."
 use Prim.Native.Nat.{ℕ, suc, _+_, _≤_, _<_}
-use mathlib.Core.Path.{_≡_, refl, sym, ap, _∙_}
-use mathlib.Core.List.{List, [], _∷_, _++_}
+use mathlib.Core.Path.{_≡_, refl, sym, _∙_}
+use mathlib.Core.List.{List, _++_}
 use lib.ListN.{length, getD, take, drop, set, length-append}
 use lib.Seq.{paste, take-length, take-append-seam, drop-append-add, drop-drop, drop-cons, set-at, append-snoc}
 use mathlib.Core.Bool.{true, false}

@@ -1,6 +1,6 @@
 -- Numbers high byte first once more, in the form in which a run is read from its front: `big` is the number of a run, and `bigBytes` the
 -- bytes of a number. That it is the same number is `big-is`.
-use Prim.Native.Nat.{ℕ, zero, suc, _+_, _-_, _*_, _/_, _%_, _^_, _≤_, _<_}
+use Prim.Native.Nat.{ℕ, zero, suc, _+_, _-_, _*_, _/_, _%_, _^_, _<_}
 use mathlib.Core.Path.{_≡_, refl, sym, ap, _∙_}
 use mathlib.Core.List.{List, [], _∷_, _++_}
 use lib.ListN.{length, getD, take, length-append, length-take}

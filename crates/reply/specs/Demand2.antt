@@ -1,18 +1,18 @@
 -- Demand 2 for replies: a datagram is accepted exactly when it is a frame by the published layout, the exclusive-or rule and
 -- document 01's ranges; reading a written frame gives its fields back; writing a frame that was read gives its bytes back.
-use Prim.Native.Nat.{ℕ, _+_, _≤_, _<_}
-use mathlib.Core.Path.{_≡_, refl, sym, ap, _∙_}
-use mathlib.Core.Bool.{Bool, true, false}
-use mathlib.Core.List.{List, [], _∷_, _++_}
-use lib.ListN.{length, take, drop, length-append, length-take, length-drop}
+use Prim.Native.Nat.{ℕ, _+_, _≤_}
+use mathlib.Core.Path.{_≡_, sym, ap, _∙_}
+use mathlib.Core.Bool.{true}
+use mathlib.Core.List.{List, [], _∷_}
+use lib.ListN.{length, take, drop, length-take, length-drop}
 use lib.Seq.{take-append-seam}
 use lib.Dec.{leb, eqb}
 use borrow.Author.Tests.{leb-true, eqb-true, eq-eqb, le-leb}
 use native.Mathlib.Omega.{arith}
-use Rattle.refusal.specs.Answer.{Answer, refused, full, demand, demand-elim, full-one}
+use Rattle.refusal.specs.Answer.{Answer, full, demand-elim, full-one}
 use Rattle.sum.specs.Bytes.{Bytes, bytes-cons, bytes-head, bytes-tail, bytes-take, bytes-drop}
 use Rattle.sum.specs.Sum.{sumOf}
-use Rattle.frame.specs.Frame.{sealed, sealed-sum, sealed-length, sealed-bytes, opened}
+use Rattle.frame.specs.Frame.{sealed-sum, sealed-length, sealed-bytes, opened}
 use Rattle.reply.specs.Layout.{Fields, reply, isReply, InRange, reply-fits, head, layout}
 use Rattle.reply.specs.Reading.{byte, readReply, fieldsOf}
 use Rattle.reply.specs.Writing.{replyFrame}

@@ -1,14 +1,14 @@
 -- Demand 2 for requests: a datagram is accepted exactly when it is a frame by the published layouts, the exclusive-or rule
 -- and document 01's ranges; reading a written frame gives its fields back; writing a frame that was read gives its bytes back.
-use Prim.Native.Nat.{ℕ, _+_, _*_, _/_, _%_, _≤_, _<_}
+use Prim.Native.Nat.{ℕ, _<_}
 use mathlib.Core.Path.{_≡_, refl, sym, ap, _∙_}
-use mathlib.Core.Bool.{Bool, true, false}
+use mathlib.Core.Bool.{true}
 use mathlib.Core.List.{List, [], _∷_}
 use lib.ListN.{length}
 use lib.Dec.{leb, eqb}
-use borrow.Author.Tests.{leb-true, eqb-true, eq-eqb, le-leb}
+use borrow.Author.Tests.{eqb-true, eq-eqb}
 use native.Mathlib.Omega.{arith}
-use Rattle.refusal.specs.Answer.{Answer, refused, full, demand, demand-elim, full-one}
+use Rattle.refusal.specs.Answer.{Answer, full, demand-elim, full-one}
 use Rattle.sum.specs.Bytes.{Bytes, bytes-none, bytes-cons, bytes-head, bytes-tail}
 use Rattle.sum.specs.Sum.{sumOf}
 use Rattle.frame.specs.Frame.{sealed, sealed-sum, sealed-bytes, opened}

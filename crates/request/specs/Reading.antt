@@ -17,7 +17,6 @@ use Rattle.request.specs.Layout.{Fields, basic, unicast, pair}
 use Rattle.request.specs.Meaning.{meaningOf}
 use Rattle.request.specs.declared.Meaning.{Meaning}
 use Rattle.request.specs.declared.Request.{Request}
-use Rattle.request.specs.declared.Arguments.{Arguments}
 use Rattle.request.specs.declared.Contents.{Contents}
 use Rattle.request.specs.declared.Contents.the-variants.{Basic as of·Basic, Unicast as of·Unicast}
 use Rattle.request.specs.declared.Reading.{Reading}

@@ -1,7 +1,7 @@
 // Requests as single datagrams: read, and written into a lent buffer. Basic requests and the one dynamic request, 40.
 // Document 01, "Frames" and "Requests and their argument ranges"; source 002, "Basic Request Frame" and "TPI Dynamic Subframe".
 ghost use mathlib.Core.Path.{_≡_};
-ghost use Prim.Native.Nat.{_≤_, _*_, _+_};
+ghost use Prim.Native.Nat.{_≤_};
 ghost use lib.ListN.{length};
 ghost use Rattle.frame.specs.Written.{Written};
 ghost use Rattle.request.specs.Meaning.{meaningOf};

@@ -1,8 +1,8 @@
 -- Laws of the exclusive-or of two numbers that the library has not: it may be regrouped, and only equal numbers cancel.
-use Prim.Native.Nat.{ℕ, zero, suc, _+_, _*_, _/_, _%_, _^_, _≤_, _<_}
-use mathlib.Core.Path.{_≡_, refl, sym, ap, ap₂, _∙_}
+use Prim.Native.Nat.{ℕ, zero, suc, _+_, _/_, _%_, _≤_, _<_}
+use mathlib.Core.Path.{_≡_, refl}
 use native.Mathlib.Omega.{arith}
-use lib.Bits.{bitXor, bitAnd, differ, xor-step, xor-shr, xor-mod, xor-self, xor-zero-l, xor-zero-r, xor-comm, xor-add-and, and-le-l, and-le-r}
+use lib.Bits.{bitXor, xor-shr, xor-mod, xor-zero-l, xor-zero-r, xor-add-and, and-le-l, and-le-r}
 
 xor-half : (a b : ℕ) → bitXor a b / 2 ≡ bitXor (a / 2) (b / 2)
 xor-half a b = xor-shr a b 1

@@ -1,13 +1,13 @@
 -- Document 01, "Requests and their argument ranges": "Lighting target: 0–63 gear, 64–79 group number + 64, 127 or 255 broadcast."
 -- "Source 002 keeps three numbers apart: a gear or group target on the line, a bare group number 0–15, and a control device
 -- address, its own number + 64." "there are 16 groups and 64 devices, so 79 and 127 end the ranges."
-use Prim.Native.Nat.{ℕ, _+_, _-_, _≤_, _<_}
-use mathlib.Core.Path.{_≡_, refl, sym, ap, _∙_}
+use Prim.Native.Nat.{ℕ, _+_, _-_, _≤_}
+use mathlib.Core.Path.{_≡_, refl, ap}
 use mathlib.Core.Bool.{Bool, true, false, _&&_, _||_}
 use lib.Dec.{leb, eqb}
-use borrow.Author.Tests.{leb-true, leb-false, eqb-true, le-leb, lt-leb}
+use borrow.Author.Tests.{leb-true, le-leb, lt-leb}
 use native.Mathlib.Omega.{arith}
-use Rattle.refusal.specs.Test.{pick, pick-elim}
+use Rattle.refusal.specs.Test.{pick}
 use Rattle.refusal.specs.Answer.{Answer, refused, full, demand, demand-elim, determined}
 use Rattle.target.specs.declared.LineTarget.{LineTarget}
 use Rattle.target.specs.declared.Group as group

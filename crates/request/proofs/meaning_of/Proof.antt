@@ -1,5 +1,4 @@
 use Rattle.request.specs.Meaning.{meaningOf}
-use Rattle.refusal.specs.Test.{tests}
 use borrow.Author.Needs.{needs}
 use Rattle.request.proofs.meaning_of.Statement.{statement}
 use Rattle.request.proofs.meaning_of.Tie as tie

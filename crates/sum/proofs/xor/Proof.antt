@@ -1,9 +1,6 @@
-use Prim.Native.Nat.{ℕ, _≤_, _-_}
-use mathlib.Core.Path.{_≡_, refl, sym, _∙_}
+use Prim.Native.Nat.{_≤_, _-_}
+use mathlib.Core.Path.{_≡_, sym, _∙_}
 use lib.ListN.{length, drop}
-use lib.Seq.{drop-cons, drop-length}
-use native.Mathlib.Omega.{arith}
-use native.Mathlib.Numerals.{add-one}
 use borrow.Author.Needs.{needs}
 use Rattle.sum.specs.Sum.{sumFrom, sumOf, sum-turn, sum-done}
 use Rattle.sum.proofs.xor.Statement.{statement}
