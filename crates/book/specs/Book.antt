@@ -4,7 +4,6 @@ use mathlib.Core.Path.{_≡_, sym, _∙_}
 use mathlib.Core.Bool.{Bool}
 use mathlib.Core.List.{List}
 use lib.ListN.{getD, set, replicate}
-use native.Mathlib.Omega.{arith}
 use Rattle.refusal.specs.Test.{pick}
 use Rattle.refusal.specs.Answer.{Answer, refused, full, demand}
 use Rattle.command.specs.Command.{isKnown}
@@ -81,14 +80,14 @@ pub record Replies (b : Book) (n : ℕ) (r : Replied) : Type 0 where
 -- they leave no choice
 pub given-one : (x y : Given) → saidGiven x ≡ saidGiven y → x ≡ y
 given-one (given·Refused j) (given·Refused k) e = cc
-given-one (given·Refused j) (Number n) e = absurd (let z : _≡_ {A = ℕ} 0 1 = cc in omega arith)
-given-one (Number m) (given·Refused k) e = absurd (let z : _≡_ {A = ℕ} 0 1 = cc in omega arith)
+given-one (given·Refused j) (Number n) e = cc
+given-one (Number m) (given·Refused k) e = cc
 given-one (Number m) (Number n) e = cc
 
 pub freed-one : (x y : Freed) → saidFreed x ≡ saidFreed y → x ≡ y
 freed-one (freed·Refused j) (freed·Refused k) e = cc
-freed-one (freed·Refused j) (Command d) e = absurd (let z : _≡_ {A = ℕ} 0 1 = cc in omega arith)
-freed-one (Command c) (freed·Refused k) e = absurd (let z : _≡_ {A = ℕ} 0 1 = cc in omega arith)
+freed-one (freed·Refused j) (Command d) e = cc
+freed-one (Command c) (freed·Refused k) e = cc
 freed-one (Command c) (Command d) e = cc
 
 pub asks-one : {b : Book} {c : ℕ} {r s : Asked} → Asks b c r → Asks b c s → r ≡ s

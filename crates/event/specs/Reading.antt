@@ -1,13 +1,13 @@
 -- What a datagram says as an event, over the width of the target. Document 01, "Refusals, by number": 1, 2, 4, 5, 6, 7, the lowest that applies.
 use Prim.Native.Nat.{ℕ, _+_, _≤_}
-use mathlib.Core.Path.{_≡_, refl, sym, ap, _∙_}
+use mathlib.Core.Path.{_≡_, sym, ap, _∙_}
 use mathlib.Core.Bool.{false, not, _&&_}
 use mathlib.Core.List.{List, []}
 use lib.ListN.{length, getD, take, drop}
 use lib.Dec.{leb, eqb}
 use borrow.Author.Tests.{leb-true, eqb-true, le-leb, eq-eqb}
 use native.Mathlib.Omega.{arith}
-use Rattle.refusal.specs.Answer.{Answer, refused, full, demand, demand-elim, full-one, determined}
+use Rattle.refusal.specs.Answer.{Answer, refused, full, demand, demand-elim, full-one}
 use Rattle.sum.specs.Sum.{sumOf}
 use Rattle.frame.specs.Frame.{listed}
 use Rattle.order.specs.Order.{highFirst, numberIn}
@@ -24,17 +24,11 @@ said (Refused k) = refused k
 said (Accepted r) = full r
 
 -- it leaves no choice
-back : Answer Event → Reading
-back (refused k) = Refused k
-back (full r) = Accepted r
-
-pub read-one : {v : Answer Event} (x y : Reading) → said x ≡ v → said y ≡ v → x ≡ y
-unfolding back
-read-one x y = determined said back inverse x y
-  where
-    inverse : (x : Reading) → back (said x) ≡ x
-    inverse (Refused k) = refl
-    inverse (Accepted r) = refl
+pub said-one : (x y : Reading) → said x ≡ said y → x ≡ y
+said-one (Refused j) (Refused k) e = cc
+said-one (Refused j) (Accepted n) e = cc
+said-one (Accepted m) (Refused k) e = cc
+said-one (Accepted m) (Accepted n) e = cc
 
 -- the byte at a place of a datagram
 abbrev pub byte : ℕ → List ℕ → ℕ

@@ -1,6 +1,6 @@
 -- Document 01, "Refusals, by number": "no lent byte and no state changes. A writer returns the count written; bytes after the frame stay."
 use Prim.Native.Nat.{ℕ, suc, _+_, _≤_, _<_}
-use mathlib.Core.Path.{_≡_, refl, sym, _∙_}
+use mathlib.Core.Path.{_≡_, sym, _∙_}
 use mathlib.Core.List.{List, _++_}
 use lib.ListN.{length, getD, take, drop, set, length-append}
 use lib.Seq.{paste, take-length, take-append-seam, drop-append-add, drop-drop, drop-cons, set-at, append-snoc}
@@ -37,20 +37,14 @@ pub record Written (v : Answer (List ℕ)) (out : List ℕ) (r : Wrote) (out′ 
   pub leaves : out′ ≡ after v out
 
 -- it leaves no choice
-back : Answer ℕ → Wrote
-back (refused k) = Refused k
-back (full n) = Count n
-
-wrote-one : {v : Answer ℕ} (r s : Wrote) → said r ≡ v → said s ≡ v → r ≡ s
-unfolding back
-wrote-one r s = determined said back inverse r s
-  where
-    inverse : (r : Wrote) → back (said r) ≡ r
-    inverse (Refused k) = refl
-    inverse (Count n) = refl
+pub said-one : (x y : Wrote) → said x ≡ said y → x ≡ y
+said-one (Refused j) (Refused k) e = cc
+said-one (Refused j) (Count n) e = cc
+said-one (Count m) (Refused k) e = cc
+said-one (Count m) (Count n) e = cc
 
 pub written-one : {v : Answer (List ℕ)} {out p q : List ℕ} {r s : Wrote} → Written v out r p → Written v out s q → (r ≡ s) × (p ≡ q)
-written-one {v} {out} {p} {q} {r} {s} a b = (wrote-one r s (a .says) (b .says), a .leaves ∙ sym (b .leaves))
+written-one {v} {out} {p} {q} {r} {s} a b = (determined said said-one r s (a .says) (b .says), a .leaves ∙ sym (b .leaves))
 
 -- a refusal, and a frame that another writer is asked to write
 pub refuses : {v : Answer (List ℕ)} {k : ℕ} (out : List ℕ) → v ≡ refused k → Written v out (Refused k) out
@@ -63,7 +57,7 @@ passes e w = rw e w
 pub written-whole : {f out p : List ℕ} {r : Wrote} → Written (full f) out r p → length f ≤ length out → (r ≡ Count (length f)) × (p ≡ f ++ drop (length f) out)
 written-whole {f} {out} {p} {r} w h =
     let t : leb (length f) (length out) ≡ true = le-leb (length f) (length out) h in
-    (wrote-one r (Count (length f)) (w .says ∙ rw t) refl, w .leaves ∙ rw t)
+    (said-one r (Count (length f)) (w .says ∙ rw t), w .leaves ∙ rw t)
 
 -- the bytes of a run, their sum behind them, over a buffer with room for both
 module _ (h d o p q : List ℕ) (x : ℕ) (room : length h + length d < length o)

@@ -1,6 +1,6 @@
 -- Document 01, "Refusals, by number": "Given exactly when" and "The lowest number that applies is given, everywhere."
 use Prim.Native.Nat.{ℕ}
-use mathlib.Core.Path.{_≡_, refl, sym, ap, _∙_}
+use mathlib.Core.Path.{_≡_, refl, sym, _∙_}
 use mathlib.Core.Bool.{Bool, true, false}
 use native.Mathlib.Omega.{arith}
 use Rattle.refusal.specs.Test.{pick}
@@ -23,6 +23,7 @@ demand-elim false k f e = absurd (let z : _≡_ {A = ℕ} 0 1 = cc in omega arit
 pub full-one : {A : Type 0} {v w : A} → full v ≡ full w → v ≡ w
 full-one e = cc
 
--- A contract `said r ≡ v` leaves no choice where an answer can be told back from what it says: any two results that it allows are equal.
-pub determined : {X A : Type 0} (said : X → Answer A) (back : Answer A → X) → ((x : X) → back (said x) ≡ x) → {v : Answer A} (x y : X) → said x ≡ v → said y ≡ v → x ≡ y
-determined said back inverse x y p q = sym (inverse x) ∙ ap back (p ∙ sym q) ∙ inverse y
+-- A contract `said r ≡ v` leaves no choice where `said` tells the answers apart: any two results that it allows are equal. Each crate has
+-- the law `..-one` of its own `said`
+pub determined : {X A : Type 0} (said : X → Answer A) → ((x y : X) → said x ≡ said y → x ≡ y) → {v : Answer A} (x y : X) → said x ≡ v → said y ≡ v → x ≡ y
+determined said one x y p q = one x y (p ∙ sym q)

@@ -1,13 +1,13 @@
 -- What a datagram says as a reply. Document 01, "Refusals, by number": 1, 2, 4, 5, 6, the lowest that applies.
 use Prim.Native.Nat.{ℕ, _+_, _≤_}
-use mathlib.Core.Path.{_≡_, refl, sym, ap, _∙_}
+use mathlib.Core.Path.{_≡_, sym, ap, _∙_}
 use mathlib.Core.List.{List, []}
 use lib.ListN.{length, getD, take, drop}
 use lib.Dec.{leb, eqb}
 use borrow.Author.Tests.{leb-true, eqb-true}
 use native.Mathlib.Omega.{arith}
 use Rattle.refusal.specs.Test.{pick}
-use Rattle.refusal.specs.Answer.{Answer, refused, full, demand, demand-elim, full-one, determined}
+use Rattle.refusal.specs.Answer.{Answer, refused, full, demand, demand-elim, full-one}
 use Rattle.sum.specs.Sum.{sumOf}
 use Rattle.error.specs.Error.{nameOf}
 use Rattle.error.specs.declared.Name.{Name}
@@ -25,17 +25,11 @@ said (Refused k) = refused k
 said (Accepted r) = full r
 
 -- it leaves no choice
-back : Answer Reply → Reading
-back (refused k) = Refused k
-back (full r) = Accepted r
-
-pub read-one : {v : Answer Reply} (x y : Reading) → said x ≡ v → said y ≡ v → x ≡ y
-unfolding back
-read-one x y = determined said back inverse x y
-  where
-    inverse : (x : Reading) → back (said x) ≡ x
-    inverse (Refused k) = refl
-    inverse (Accepted r) = refl
+pub said-one : (x y : Reading) → said x ≡ said y → x ≡ y
+said-one (Refused j) (Refused k) e = cc
+said-one (Refused j) (Accepted n) e = cc
+said-one (Accepted m) (Refused k) e = cc
+said-one (Accepted m) (Accepted n) e = cc
 
 -- the byte at a place of a datagram
 abbrev pub byte : ℕ → List ℕ → ℕ
@@ -75,21 +69,23 @@ saidCode (Named c n) = full (named c n)
 saidCode (Number c) = full (number c)
 saidCode Absent = full absent
 
-backCode : Answer ErrorCode → code.Code
-backCode (refused k) = code·Refused k
-backCode (full (named c n)) = Named c n
-backCode (full (number c)) = Number c
-backCode (full absent) = Absent
-
-pub code-one : {v : Answer ErrorCode} (x y : code.Code) → saidCode x ≡ v → saidCode y ≡ v → x ≡ y
-unfolding backCode
-code-one x y = determined saidCode backCode inverse x y
-  where
-    inverse : (x : code.Code) → backCode (saidCode x) ≡ x
-    inverse (code·Refused k) = refl
-    inverse (Named c n) = refl
-    inverse (Number c) = refl
-    inverse Absent = refl
+pub code-one : (x y : code.Code) → saidCode x ≡ saidCode y → x ≡ y
+code-one (code·Refused k) (code·Refused k′) e = cc
+code-one (code·Refused k) (Named c′ n′) e = cc
+code-one (code·Refused k) (Number c′) e = cc
+code-one (code·Refused k) Absent e = cc
+code-one (Named c n) (code·Refused k′) e = cc
+code-one (Named c n) (Named c′ n′) e = cc
+code-one (Named c n) (Number c′) e = cc
+code-one (Named c n) Absent e = cc
+code-one (Number c) (code·Refused k′) e = cc
+code-one (Number c) (Named c′ n′) e = cc
+code-one (Number c) (Number c′) e = cc
+code-one (Number c) Absent e = cc
+code-one Absent (code·Refused k′) e = cc
+code-one Absent (Named c′ n′) e = cc
+code-one Absent (Number c′) e = cc
+code-one Absent Absent e = cc
 
 -- "names from a fixed table; another code in an ERROR reply is kept as a number"
 abbrev pub codeNamed : ℕ → Name → ErrorCode

@@ -1,12 +1,12 @@
 -- What a datagram says as a request. Document 01, "Refusals, by number": 1, 2, 3, 4, 5, 6, 7, the lowest that applies.
 use Prim.Native.Nat.{ℕ, _≤_}
-use mathlib.Core.Path.{_≡_, refl, _∙_}
+use mathlib.Core.Path.{_≡_, _∙_}
 use mathlib.Core.Bool.{true}
 use mathlib.Core.List.{List}
 use lib.ListN.{length, getD}
 use lib.Dec.{leb, eqb}
 use borrow.Author.Tests.{le-leb, eq-eqb}
-use Rattle.refusal.specs.Answer.{Answer, refused, full, demand, determined}
+use Rattle.refusal.specs.Answer.{Answer, refused, full, demand}
 use Rattle.sum.specs.Sum.{sumOf}
 use Rattle.command.specs.declared.Rule.{Rule}
 use Rattle.command.specs.declared.Shape.{Shape}
@@ -28,17 +28,11 @@ said (Refused k) = refused k
 said (Accepted r) = full r
 
 -- it leaves no choice
-back : Answer Request → Reading
-back (refused k) = Refused k
-back (full r) = Accepted r
-
-pub read-one : {v : Answer Request} (x y : Reading) → said x ≡ v → said y ≡ v → x ≡ y
-unfolding back
-read-one x y = determined said back inverse x y
-  where
-    inverse : (x : Reading) → back (said x) ≡ x
-    inverse (Refused k) = refl
-    inverse (Accepted r) = refl
+pub said-one : (x y : Reading) → said x ≡ said y → x ≡ y
+said-one (Refused j) (Refused k) e = cc
+said-one (Refused j) (Accepted n) e = cc
+said-one (Accepted m) (Refused k) e = cc
+said-one (Accepted m) (Accepted n) e = cc
 
 -- the byte at a place of a datagram
 abbrev pub byte : ℕ → List ℕ → ℕ

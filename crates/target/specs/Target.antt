@@ -2,13 +2,13 @@
 -- "Source 002 keeps three numbers apart: a gear or group target on the line, a bare group number 0–15, and a control device
 -- address, its own number + 64." "there are 16 groups and 64 devices, so 79 and 127 end the ranges."
 use Prim.Native.Nat.{ℕ, _+_, _-_, _≤_}
-use mathlib.Core.Path.{_≡_, refl, ap}
+use mathlib.Core.Path.{_≡_, ap}
 use mathlib.Core.Bool.{Bool, true, false, _&&_, _||_}
 use lib.Dec.{leb, eqb}
 use borrow.Author.Tests.{leb-true, le-leb, lt-leb}
 use native.Mathlib.Omega.{arith}
 use Rattle.refusal.specs.Test.{pick}
-use Rattle.refusal.specs.Answer.{Answer, refused, full, demand, demand-elim, determined}
+use Rattle.refusal.specs.Answer.{Answer, refused, full, demand, demand-elim}
 use Rattle.target.specs.declared.LineTarget.{LineTarget}
 use Rattle.target.specs.declared.Group as group
 use Rattle.target.specs.declared.Device.{Device}
@@ -56,41 +56,23 @@ saidNumber (number·Refused k) = refused k
 saidNumber (Own n) = full n
 
 -- they leave no choice
-backLine : Answer LineTarget → OnLine
-backLine (refused k) = line·Refused k
-backLine (full t) = line·At t
+pub line-one : (x y : OnLine) → saidLine x ≡ saidLine y → x ≡ y
+line-one (line·Refused j) (line·Refused k) e = cc
+line-one (line·Refused j) (line·At n) e = cc
+line-one (line·At m) (line·Refused k) e = cc
+line-one (line·At m) (line·At n) e = cc
 
-pub line-one : {v : Answer LineTarget} (x y : OnLine) → saidLine x ≡ v → saidLine y ≡ v → x ≡ y
-unfolding backLine
-line-one x y = determined saidLine backLine inverse x y
-  where
-    inverse : (x : OnLine) → backLine (saidLine x) ≡ x
-    inverse (line·Refused k) = refl
-    inverse (line·At t) = refl
+pub device-one : (x y : Addressed) → saidDevice x ≡ saidDevice y → x ≡ y
+device-one (device·Refused j) (device·Refused k) e = cc
+device-one (device·Refused j) (device·At n) e = cc
+device-one (device·At m) (device·Refused k) e = cc
+device-one (device·At m) (device·At n) e = cc
 
-backDevice : Answer Device → Addressed
-backDevice (refused k) = device·Refused k
-backDevice (full a) = device·At a
-
-pub device-one : {v : Answer Device} (x y : Addressed) → saidDevice x ≡ v → saidDevice y ≡ v → x ≡ y
-unfolding backDevice
-device-one x y = determined saidDevice backDevice inverse x y
-  where
-    inverse : (x : Addressed) → backDevice (saidDevice x) ≡ x
-    inverse (device·Refused k) = refl
-    inverse (device·At a) = refl
-
-backNumber : Answer ℕ → Numbered
-backNumber (refused k) = number·Refused k
-backNumber (full n) = Own n
-
-pub number-one : {v : Answer ℕ} (x y : Numbered) → saidNumber x ≡ v → saidNumber y ≡ v → x ≡ y
-unfolding backNumber
-number-one x y = determined saidNumber backNumber inverse x y
-  where
-    inverse : (x : Numbered) → backNumber (saidNumber x) ≡ x
-    inverse (number·Refused k) = refl
-    inverse (Own n) = refl
+pub number-one : (x y : Numbered) → saidNumber x ≡ saidNumber y → x ≡ y
+number-one (number·Refused j) (number·Refused k) e = cc
+number-one (number·Refused j) (Own n) e = cc
+number-one (Own m) (number·Refused k) e = cc
+number-one (Own m) (Own n) e = cc
 
 -- a group on the line is its number + 64; 7 is an argument outside the table
 abbrev pub lineOf : group.Group → Answer LineTarget
