@@ -1,6 +1,4 @@
--- Demand 2 for events, over the width of the target: a datagram is accepted exactly when it is a frame by the published layout,
--- the exclusive-or rule and document 01's ranges; reading a written frame gives its fields back; writing a frame that was read
--- gives its bytes back.
+-- Demand 2 for events, over the width of the target (crate frame says what it is).
 use Prim.Native.Nat.{ℕ, _+_, _^_, _≤_, _<_}
 use mathlib.Core.Path.{_≡_, refl, sym, ap, _∙_}
 use mathlib.Core.Bool.{false, not, _&&_}
@@ -14,12 +12,14 @@ use Rattle.refusal.specs.Test.{both-left, both-right}
 use Rattle.refusal.specs.Answer.{Answer, full, demand-elim, full-one}
 use Rattle.sum.specs.Bytes.{Bytes, bytes-none, bytes-cons, bytes-append, bytes-head, bytes-tail, bytes-take, bytes-drop}
 use Rattle.sum.specs.Sum.{sumOf}
-use Rattle.frame.specs.Frame.{sealed, sealed-sum, sealed-bytes, listed, listed-take, length-listed, listed-append, opened}
+use Rattle.frame.specs.Demand2 as family
+use Rattle.frame.specs.Demand2.{Demand2, demand2}
+use Rattle.frame.specs.Frame.{byte, sealed, sealed-sum, sealed-bytes, listed, listed-take, length-listed, listed-append, opened}
 use Rattle.order.specs.Order.{highFirst, numberIn}
 use Rattle.order.specs.Big.{bigBytes, big-is, length-big, big-bytes, bytes-big, big-lt, big-are-bytes}
 use Rattle.event.specs.Types.{number-kept, lacks}
 use Rattle.event.specs.Layout.{Fields, event, InRange, event-fits, typeAt, countAt, dataAt, macBytes, lead, head, layout}
-use Rattle.event.specs.Reading.{byte, macOf, eventIn, readEvent, fieldsOf, accepts}
+use Rattle.event.specs.Reading.{macOf, eventIn, readEvent, fieldsOf, accepts}
 use Rattle.event.specs.Writing.{eventFrame, frames}
 use Rattle.event.specs.declared.Mac.{Mac}
 use Rattle.event.specs.declared.Event.{Event}
@@ -27,11 +27,9 @@ use Rattle.event.specs.declared.Event.{Event}
 abbrev pub frameOf : ℕ → Fields → Answer (List ℕ)
 frameOf w (event m t k l) = eventFrame w m t k l
 
--- a reading that gives back some fields
-pub record Reads (w : ℕ) (d : List ℕ) (f : Fields) : Type 0 where
-  pub reading : Event
-  pub accepted : readEvent w d ≡ full reading
-  pub fields : fieldsOf w reading d ≡ f
+-- the datagram is accepted, and gives these fields
+abbrev Reads : ℕ → List ℕ → Fields → Type 0
+Reads w d f = family.Reads (InRange w) (layout w) (readEvent w) (fieldsOf w) (frameOf w) d f
 
 regroup : (a b c d : List ℕ) → ((a ++ b) ++ c) ++ d ≡ a ++ (b ++ (c ++ d))
 regroup a b c d = simp append-assoc
@@ -90,8 +88,8 @@ module _ (w : ℕ) (m : Mac) (t k : ℕ) (l : List ℕ) (short : length l ≤ 48
         fields = rw (at-count, at-target, number-kept (byte (typeAt w) x), at-type, at-data, ← big-is w (bigBytes w t) (length-big w t), big-bytes w t small);
       }
 
--- READING A WRITTEN FRAME GIVES ITS FIELDS BACK
-pub read-written : (w : ℕ) (f : Fields) (d : List ℕ) → frameOf w f ≡ full d → Reads w d f
+-- what was written is read as its fields
+read-written : (w : ℕ) (f : Fields) (d : List ℕ) → frameOf w f ≡ full d → Reads w d f
 unfolding eventFrame x
 read-written w (event m t k l) d =
     demand-elim (leb (length l) 48) 4
@@ -102,8 +100,8 @@ read-written w (event m t k l) d =
     rw o at (event-reads w m t k l (leb-true (length l) 48 h₄) (ltb-true t (256 ^ w) h₇) (not-true (lacks k (length l)) i)))))
 
 -- in range: the frame is the layout
-in-range-written : {w : ℕ} {f : Fields} → InRange w f → frameOf w f ≡ full (layout w f)
-in-range-written {w} (event-fits {m} {t} {k} {l} h₄ h₇ i a b) = frames w m t k l h₄ h₇ i
+in-range-written : (w : ℕ) (f : Fields) → InRange w f → frameOf w f ≡ full (layout w f)
+in-range-written w (event m t k l) (event-fits h₄ h₇ i a b) = frames w m t k l h₄ h₇ i
 
 first-two : {a b : ℕ} {l : List ℕ} → a ≡ 0x5A → b ≡ 0x43 → _≡_ {A = List ℕ} (a ∷ b ∷ l) (0x5A ∷ 0x43 ∷ l)
 first-two p q = cc
@@ -133,8 +131,8 @@ module _ (w : ℕ) (d : List ℕ) (bs : Bytes d) (z : byte 0 d ≡ 0x5A) (c : by
       ∙ ap (λ (l : List ℕ). (listed 0 8 d ++ l) ++ n) (sym target-back)
       ∙ first-two z c
 
--- AN ACCEPTED DATAGRAM IS A FRAME: the fields that it gives are in range, and it is their layout
-pub accepted-frame : (w : ℕ) (d : List ℕ) (r : Event) → Bytes d → readEvent w d ≡ full r → InRange w (fieldsOf w r d) × (d ≡ layout w (fieldsOf w r d))
+-- an accepted datagram is a frame: the fields that it gives are in range, and it is their layout
+accepted-frame : (w : ℕ) (d : List ℕ) (r : Event) → Bytes d → readEvent w d ≡ full r → InRange w (fieldsOf w r d) × (d ≡ layout w (fieldsOf w r d))
 unfolding readEvent
 accepted-frame w d r bs =
     demand-elim (leb (11 + w) (length d)) 1
@@ -162,12 +160,9 @@ accepted-frame w d r bs =
     let b : Bytes (k ∷ l) = bytes-cons (bs .byte (typeAt w)) (bytes-take n (drop (dataAt w) d) (bytes-drop (dataAt w) d bs)) in
     rw (← full-one e, number-kept k) (event-fits short small has (mac-bytes d bs) b, o)))))))
 
--- and EACH FRAME IS ACCEPTED, and is a run of bytes
-pub frame-accepted : (w : ℕ) (f : Fields) → InRange w f → Reads w (layout w f) f
-frame-accepted w f i = read-written w f (layout w f) (in-range-written i)
-
-pub frame-bytes : {w : ℕ} {f : Fields} → InRange w f → Bytes (layout w f)
-frame-bytes {w} (event-fits {m} {t} {k} {l} h₄ h₇ i a b) =
+-- each frame is a run of bytes
+frame-bytes : (w : ℕ) (f : Fields) → InRange w f → Bytes (layout w f)
+frame-bytes w (event m t k l) (event-fits h₄ h₇ i a b) =
     sealed-bytes
     (bytes-append (lead w m t k (length l))
     (bytes-append ((0x5A ∷ 0x43 ∷ macBytes m) ++ bigBytes w t)
@@ -175,15 +170,6 @@ frame-bytes {w} (event-fits {m} {t} {k} {l} h₄ h₇ i a b) =
     (bytes-cons (bytes-head b) (bytes-cons {b = length l} (omega arith) bytes-none)))
     (bytes-tail b))
 
--- the fields of a datagram are unique
-pub fields-one : (w : ℕ) (f g : Fields) → InRange w f → InRange w g → layout w f ≡ layout w g → f ≡ g
-fields-one w f g i j e =
-    let a = frame-accepted w f i in
-    let b : Reads w (layout w f) g = rw e (frame-accepted w g j) in
-    sym (a .fields) ∙ ap (λ (r : Event). fieldsOf w r (layout w f)) (full-one (sym (a .accepted) ∙ b .accepted)) ∙ b .fields
-
--- WRITING A FRAME THAT WAS READ GIVES ITS BYTES BACK (into a buffer that is long enough: written-whole of crate frame)
-pub written-read : (w : ℕ) (d : List ℕ) (r : Event) → Bytes d → readEvent w d ≡ full r → frameOf w (fieldsOf w r d) ≡ full d
-written-read w d r bs e =
-    let v = accepted-frame w d r bs e in
-    in-range-written (v .0) ∙ ap full (sym (v .1))
+-- DEMAND 2 FOR EVENTS, over the width of the target
+pub events : (w : ℕ) → Demand2 (InRange w) (layout w) (readEvent w) (fieldsOf w) (frameOf w)
+events w = demand2 (InRange w) (layout w) (readEvent w) (fieldsOf w) (frameOf w) (accepted-frame w) (frame-bytes w) (in-range-written w) (read-written w)

@@ -3,13 +3,13 @@ use Prim.Native.Nat.{ℕ, _+_, _≤_}
 use mathlib.Core.Path.{_≡_, sym, ap, _∙_}
 use mathlib.Core.Bool.{false, not, _&&_}
 use mathlib.Core.List.{List, []}
-use lib.ListN.{length, getD, take, drop}
+use lib.ListN.{length, take, drop}
 use lib.Dec.{leb, eqb}
 use borrow.Author.Tests.{leb-true, eqb-true, le-leb, eq-eqb}
 use native.Mathlib.Omega.{arith}
 use Rattle.refusal.specs.Answer.{Answer, refused, full, demand, demand-elim, full-one}
 use Rattle.sum.specs.Sum.{sumOf}
-use Rattle.frame.specs.Frame.{listed}
+use Rattle.frame.specs.Frame.{byte, listed}
 use Rattle.order.specs.Order.{highFirst, numberIn}
 use Rattle.event.specs.Types.{typeOf, numberOf, lacks, instanceOf}
 use Rattle.event.specs.Layout.{Fields, event, typeAt, countAt, dataAt}
@@ -29,10 +29,6 @@ said-one (Refused j) (Refused k) e = cc
 said-one (Refused j) (Accepted n) e = cc
 said-one (Accepted m) (Refused k) e = cc
 said-one (Accepted m) (Accepted n) e = cc
-
--- the byte at a place of a datagram
-abbrev pub byte : ℕ → List ℕ → ℕ
-byte i d = getD d i 0
 
 abbrev pub macOf : List ℕ → Mac
 macOf d = record { 0 = byte 2 d; 1 = byte 3 d; 2 = byte 4 d; 3 = byte 5 d; 4 = byte 6 d; 5 = byte 7 d }

@@ -9,6 +9,10 @@ use native.Mathlib.Omega.{arith}
 use Rattle.sum.specs.Bytes.{Bytes, bytes-none, bytes-cons, bytes-append}
 use Rattle.sum.specs.Sum.{sumOf, sum-closed, sum-closes, sum-byte}
 
+-- the byte at a place of a datagram
+abbrev pub byte : ℕ → List ℕ → ℕ
+byte i d = getD d i 0
+
 -- some bytes, and their sum behind them
 abbrev pub sealed : List ℕ → List ℕ
 sealed s = s ++ (sumOf s ∷ [])

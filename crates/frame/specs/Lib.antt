@@ -1,2 +1,3 @@
 pub mod Frame
 pub mod Written
+pub mod Demand2

@@ -1,7 +1,6 @@
--- Demand 2 for replies: a datagram is accepted exactly when it is a frame by the published layout, the exclusive-or rule and
--- document 01's ranges; reading a written frame gives its fields back; writing a frame that was read gives its bytes back.
+-- Demand 2 for replies (crate frame says what it is).
 use Prim.Native.Nat.{ℕ, _+_, _≤_}
-use mathlib.Core.Path.{_≡_, sym, ap, _∙_}
+use mathlib.Core.Path.{_≡_, ap}
 use mathlib.Core.Bool.{true}
 use mathlib.Core.List.{List, [], _∷_}
 use lib.ListN.{length, take, drop, length-take, length-drop}
@@ -12,20 +11,20 @@ use native.Mathlib.Omega.{arith}
 use Rattle.refusal.specs.Answer.{Answer, full, demand-elim, full-one}
 use Rattle.sum.specs.Bytes.{Bytes, bytes-cons, bytes-head, bytes-tail, bytes-take, bytes-drop}
 use Rattle.sum.specs.Sum.{sumOf}
-use Rattle.frame.specs.Frame.{sealed-sum, sealed-length, sealed-bytes, opened}
+use Rattle.frame.specs.Demand2 as family
+use Rattle.frame.specs.Demand2.{Demand2, demand2}
+use Rattle.frame.specs.Frame.{byte, sealed-sum, sealed-length, sealed-bytes, opened}
 use Rattle.reply.specs.Layout.{Fields, reply, isReply, InRange, reply-fits, head, layout}
-use Rattle.reply.specs.Reading.{byte, readReply, fieldsOf}
+use Rattle.reply.specs.Reading.{readReply, fieldsOf}
 use Rattle.reply.specs.Writing.{replyFrame}
 use Rattle.reply.specs.declared.Reply.{Reply}
 
 abbrev pub frameOf : Fields → Answer (List ℕ)
 frameOf (reply t s l) = replyFrame t s l
 
--- a reading that gives back some fields
-pub record Reads (d : List ℕ) (f : Fields) : Type 0 where
-  pub reading : Reply
-  pub accepted : readReply d ≡ full reading
-  pub fields : fieldsOf reading d ≡ f
+-- the datagram is accepted, and gives these fields
+abbrev Reads : List ℕ → Fields → Type 0
+Reads d f = family.Reads InRange layout readReply fieldsOf frameOf d f
 
 -- each layout reads as its fields
 reply-reads : (t s : ℕ) (l : List ℕ) → isReply t ≡ true → length l ≤ 64 → Reads (layout (reply t s l)) (reply t s l)
@@ -41,8 +40,8 @@ reply-reads t s l h m =
       fields = ap (reply t s) (take-append-seam l (sumOf (head (reply t s l)) ∷ []));
     }
 
--- READING A WRITTEN FRAME GIVES ITS FIELDS BACK
-pub read-written : (f : Fields) (x : List ℕ) → frameOf f ≡ full x → Reads x f
+-- what was written is read as its fields
+read-written : (f : Fields) (x : List ℕ) → frameOf f ≡ full x → Reads x f
 unfolding replyFrame
 read-written (reply t s l) x =
     demand-elim (isReply t) 2
@@ -50,12 +49,12 @@ read-written (reply t s l) x =
     (λ m e. let o : layout (reply t s l) ≡ x = full-one e in rw o at (reply-reads t s l h (leb-true (length l) 64 m))))
 
 -- in range: the frame is the layout
-in-range-written : {f : Fields} → InRange f → frameOf f ≡ full (layout f)
+in-range-written : (f : Fields) → InRange f → frameOf f ≡ full (layout f)
 unfolding replyFrame
-in-range-written (reply-fits {t} {s} {l} h m b) = rw (h, le-leb (length l) 64 m)
+in-range-written (reply t s l) (reply-fits h m b) = rw (h, le-leb (length l) 64 m)
 
--- AN ACCEPTED DATAGRAM IS A FRAME: the fields that it gives are in range, and it is their layout
-pub accepted-frame : (d : List ℕ) (r : Reply) → Bytes d → readReply d ≡ full r → InRange (fieldsOf r d) × (d ≡ layout (fieldsOf r d))
+-- an accepted datagram is a frame: the fields that it gives are in range, and it is their layout
+accepted-frame : (d : List ℕ) (r : Reply) → Bytes d → readReply d ≡ full r → InRange (fieldsOf r d) × (d ≡ layout (fieldsOf r d))
 unfolding readReply
 accepted-frame d r bs =
     demand-elim (leb 4 (length d)) 1
@@ -74,23 +73,11 @@ accepted-frame d r bs =
     let short : length l ≤ 64 = omega arith in
     rw (← full-one e) (reply-fits h₂ short b, o))))))
 
--- and EACH FRAME IS ACCEPTED, and is a run of bytes
-pub frame-accepted : (f : Fields) → InRange f → Reads (layout f) f
-frame-accepted f i = read-written f (layout f) (in-range-written i)
-
-pub frame-bytes : {f : Fields} → InRange f → Bytes (layout f)
-frame-bytes (reply-fits {t} {s} {l} h m b) =
+-- each frame is a run of bytes
+frame-bytes : (f : Fields) → InRange f → Bytes (layout f)
+frame-bytes (reply t s l) (reply-fits h m b) =
     sealed-bytes (bytes-cons (bytes-head b) (bytes-cons (bytes-head (bytes-tail b)) (bytes-cons {b = length l} (omega arith) (bytes-tail (bytes-tail b)))))
 
--- the fields of a datagram are unique
-pub fields-one : (f g : Fields) → InRange f → InRange g → layout f ≡ layout g → f ≡ g
-fields-one f g i j e =
-    let a = frame-accepted f i in
-    let b : Reads (layout f) g = rw e (frame-accepted g j) in
-    sym (a .fields) ∙ ap (λ (r : Reply). fieldsOf r (layout f)) (full-one (sym (a .accepted) ∙ b .accepted)) ∙ b .fields
-
--- WRITING A FRAME THAT WAS READ GIVES ITS BYTES BACK (into a buffer that is long enough: written-whole of crate frame)
-pub written-read : (d : List ℕ) (r : Reply) → Bytes d → readReply d ≡ full r → frameOf (fieldsOf r d) ≡ full d
-written-read d r bs e =
-    let w = accepted-frame d r bs e in
-    in-range-written (w .0) ∙ ap full (sym (w .1))
+-- DEMAND 2 FOR REPLIES
+pub replies : Demand2 InRange layout readReply fieldsOf frameOf
+replies = demand2 InRange layout readReply fieldsOf frameOf accepted-frame frame-bytes in-range-written read-written

@@ -2,13 +2,14 @@
 use Prim.Native.Nat.{ℕ, _+_, _≤_}
 use mathlib.Core.Path.{_≡_, sym, ap, _∙_}
 use mathlib.Core.List.{List, []}
-use lib.ListN.{length, getD, take, drop}
+use lib.ListN.{length, take, drop}
 use lib.Dec.{leb, eqb}
 use borrow.Author.Tests.{leb-true, eqb-true}
 use native.Mathlib.Omega.{arith}
 use Rattle.refusal.specs.Test.{pick}
 use Rattle.refusal.specs.Answer.{Answer, refused, full, demand, demand-elim, full-one}
 use Rattle.sum.specs.Sum.{sumOf}
+use Rattle.frame.specs.Frame.{byte}
 use Rattle.error.specs.Error.{nameOf}
 use Rattle.error.specs.declared.Name.{Name}
 use Rattle.error.specs.declared.Name.the-variants.{Number as name·Number, Nothing}
@@ -30,10 +31,6 @@ said-one (Refused j) (Refused k) e = cc
 said-one (Refused j) (Accepted n) e = cc
 said-one (Accepted m) (Refused k) e = cc
 said-one (Accepted m) (Accepted n) e = cc
-
--- the byte at a place of a datagram
-abbrev pub byte : ℕ → List ℕ → ℕ
-byte i d = getD d i 0
 
 unfoldable pub readReply : List ℕ → Answer Reply
 readReply d =

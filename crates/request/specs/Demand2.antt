@@ -1,5 +1,4 @@
--- Demand 2 for requests: a datagram is accepted exactly when it is a frame by the published layouts, the exclusive-or rule
--- and document 01's ranges; reading a written frame gives its fields back; writing a frame that was read gives its bytes back.
+-- Demand 2 for requests (crate frame says what it is).
 use Prim.Native.Nat.{ℕ, _<_}
 use mathlib.Core.Path.{_≡_, refl, sym, ap, _∙_}
 use mathlib.Core.Bool.{true}
@@ -11,7 +10,9 @@ use native.Mathlib.Omega.{arith}
 use Rattle.refusal.specs.Answer.{Answer, full, demand-elim, full-one}
 use Rattle.sum.specs.Bytes.{Bytes, bytes-none, bytes-cons, bytes-head, bytes-tail}
 use Rattle.sum.specs.Sum.{sumOf}
-use Rattle.frame.specs.Frame.{sealed, sealed-sum, sealed-bytes, opened}
+use Rattle.frame.specs.Demand2 as family
+use Rattle.frame.specs.Demand2.{Demand2, demand2}
+use Rattle.frame.specs.Frame.{byte, sealed, sealed-sum, sealed-bytes, opened}
 use Rattle.order.specs.Order.{numberOf}
 use Rattle.command.specs.declared.Rule.{Rule}
 use Rattle.command.specs.declared.Shape.{Shape}
@@ -20,7 +21,7 @@ use Rattle.command.specs.Command.{shapeOf, unicast-only}
 use Rattle.command.specs.Arguments.{fits}
 use Rattle.request.specs.Layout.{Fields, basic, unicast, InRange, basic-fits, unicast-fits, head, layout, pair, high, low}
 use Rattle.request.specs.Meaning.{meaningOf}
-use Rattle.request.specs.Reading.{byte, basicReading, unicastReading, readBasic, readUnicast, readShape, readRequest, fieldsOf, basic-accepts, shape-read}
+use Rattle.request.specs.Reading.{basicReading, unicastReading, readBasic, readUnicast, readShape, readRequest, fieldsOf, basic-accepts, shape-read}
 use Rattle.request.specs.Writing.{basicOf, basicFrame, unicastFrame}
 use Rattle.request.specs.declared.Request.{Request}
 
@@ -29,11 +30,9 @@ abbrev pub frameOf : Fields → Answer (List ℕ)
 frameOf (basic s k a b c d) = basicFrame s k (record { a = a; b = b; c = c; d = d })
 frameOf (unicast s port i j k l) = unicastFrame s port (record { 0 = i; 1 = j; 2 = k; 3 = l })
 
--- a reading that gives back some fields
-pub record Reads (d : List ℕ) (f : Fields) : Type 0 where
-  pub reading : Request
-  pub accepted : readRequest d ≡ full reading
-  pub fields : fieldsOf reading ≡ f
+-- the datagram is accepted, and gives these fields
+abbrev Reads : List ℕ → Fields → Type 0
+Reads d f = family.Reads InRange layout readRequest (λ r x. fieldsOf r) frameOf d f
 
 pair-high : (h l : ℕ) → h < 256 → l < 256 → high (pair h l) ≡ h
 unfolding numberOf
@@ -72,8 +71,8 @@ unicast-reads s port i j k l =
       fields = refl;
     }
 
--- READING A WRITTEN FRAME GIVES ITS FIELDS BACK
-pub read-written : (f : Fields) (x : List ℕ) → frameOf f ≡ full x → Reads x f
+-- what was written is read as its fields
+read-written : (f : Fields) (x : List ℕ) → frameOf f ≡ full x → Reads x f
 read-written (basic s k a b c d) x e = go (shapeOf k) refl e
   where
     go : (h : Shape) → shapeOf k ≡ h → basicOf h s k (record { a = a; b = b; c = c; d = d }) ≡ full x → Reads x (basic s k a b c d)
@@ -83,9 +82,9 @@ read-written (basic s k a b c d) x e = go (shapeOf k) refl e
 read-written (unicast s port i j k l) x e = let o : layout (unicast s port i j k l) ≡ x = full-one e in rw o at (unicast-reads s port i j k l)
 
 -- in range: the frame is the layout
-in-range-written : {f : Fields} → InRange f → frameOf f ≡ full (layout f)
-in-range-written (basic-fits rule h t b) = rw (h, t)
-in-range-written (unicast-fits p b) = refl
+in-range-written : (f : Fields) → InRange f → frameOf f ≡ full (layout f)
+in-range-written (basic s k a b c d) (basic-fits rule h t z) = rw (h, t)
+in-range-written (unicast s port i j k l) (unicast-fits p z) = refl
 
 -- what a reading tells of its datagram
 basic-frame : (d : List ℕ) (rule : Rule) (r : Request) → Bytes d → byte 0 d ≡ 0x04 → shapeOf (byte 2 d) ≡ Basic rule → readBasic rule d ≡ full r
@@ -127,8 +126,8 @@ unicast-frame d r bs lead h =
         → _≡_ {A = List ℕ} (a ∷ s ∷ b ∷ c ∷ h ∷ l ∷ i ∷ j ∷ k ∷ m ∷ []) (a′ ∷ s ∷ b′ ∷ c′ ∷ h′ ∷ l′ ∷ i ∷ j ∷ k ∷ m ∷ [])
     same-head p q r s t = cc
 
--- AN ACCEPTED DATAGRAM IS A FRAME: the fields that it gives are in range, and it is their layout
-pub accepted-frame : (d : List ℕ) (r : Request) → Bytes d → readRequest d ≡ full r → InRange (fieldsOf r) × (d ≡ layout (fieldsOf r))
+-- an accepted datagram is a frame: the fields that it gives are in range, and it is their layout
+accepted-frame : (d : List ℕ) (r : Request) → Bytes d → readRequest d ≡ full r → InRange (fieldsOf r) × (d ≡ layout (fieldsOf r))
 unfolding readRequest
 accepted-frame d r bs =
     demand-elim (leb 8 (length d)) 1
@@ -140,10 +139,7 @@ accepted-frame d r bs =
     go lead (Basic rule) h e = basic-frame d rule r bs lead h e
     go lead Unicast h e = unicast-frame d r bs lead h e
 
--- and EACH FRAME IS ACCEPTED, and is a run of bytes
-pub frame-accepted : (f : Fields) → InRange f → Reads (layout f) f
-frame-accepted f i = read-written f (layout f) (in-range-written i)
-
+-- each frame is a run of bytes
 head-bytes : {f : Fields} → InRange f → Bytes (head f)
 head-bytes (basic-fits rule h t b) = bytes-cons (omega arith) b
 head-bytes (unicast-fits {s} {port} {i} {j} {k} {l} p b) =
@@ -154,18 +150,9 @@ head-bytes (unicast-fits {s} {port} {i} {j} {k} {l} p b) =
     (bytes-cons {b = high port} (omega arith)
     (bytes-cons {b = low port} (omega arith) (bytes-tail b))))))
 
-pub frame-bytes : {f : Fields} → InRange f → Bytes (layout f)
-frame-bytes i = sealed-bytes (head-bytes i)
+frame-bytes : (f : Fields) → InRange f → Bytes (layout f)
+frame-bytes f i = sealed-bytes (head-bytes i)
 
--- the fields of a datagram are unique
-pub fields-one : (f g : Fields) → InRange f → InRange g → layout f ≡ layout g → f ≡ g
-fields-one f g i j e =
-    let a = frame-accepted f i in
-    let b : Reads (layout f) g = rw e (frame-accepted g j) in
-    sym (a .fields) ∙ ap fieldsOf (full-one (sym (a .accepted) ∙ b .accepted)) ∙ b .fields
-
--- WRITING A FRAME THAT WAS READ GIVES ITS BYTES BACK (into a buffer that is long enough: written-whole of crate frame)
-pub written-read : (d : List ℕ) (r : Request) → Bytes d → readRequest d ≡ full r → frameOf (fieldsOf r) ≡ full d
-written-read d r bs e =
-    let w = accepted-frame d r bs e in
-    in-range-written (w .0) ∙ ap full (sym (w .1))
+-- DEMAND 2 FOR REQUESTS
+pub requests : Demand2 InRange layout readRequest (λ r d. fieldsOf r) frameOf
+requests = demand2 InRange layout readRequest (λ r d. fieldsOf r) frameOf accepted-frame frame-bytes in-range-written read-written

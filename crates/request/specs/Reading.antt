@@ -3,11 +3,12 @@ use Prim.Native.Nat.{ℕ, _≤_}
 use mathlib.Core.Path.{_≡_, _∙_}
 use mathlib.Core.Bool.{true}
 use mathlib.Core.List.{List}
-use lib.ListN.{length, getD}
+use lib.ListN.{length}
 use lib.Dec.{leb, eqb}
 use borrow.Author.Tests.{le-leb, eq-eqb}
 use Rattle.refusal.specs.Answer.{Answer, refused, full, demand}
 use Rattle.sum.specs.Sum.{sumOf}
+use Rattle.frame.specs.Frame.{byte}
 use Rattle.command.specs.declared.Rule.{Rule}
 use Rattle.command.specs.declared.Shape.{Shape}
 use Rattle.command.specs.declared.Shape.the-variants.{Unknown, Basic, Unicast}
@@ -33,10 +34,6 @@ said-one (Refused j) (Refused k) e = cc
 said-one (Refused j) (Accepted n) e = cc
 said-one (Accepted m) (Refused k) e = cc
 said-one (Accepted m) (Accepted n) e = cc
-
--- the byte at a place of a datagram
-abbrev pub byte : ℕ → List ℕ → ℕ
-byte i d = getD d i 0
 
 -- the reading of a basic request, and of request 40
 abbrev pub basicReading : Rule → ℕ → ℕ → ℕ → ℕ → ℕ → ℕ → Request
