@@ -1,0 +1,91 @@
+-- Document 01, "Bench cases": "Proved of the written definitions, as a single list under a single claim, are the cases marked P."
+use Prim.Native.Nat.{ℕ}
+use mathlib.Core.Path.{_≡_, refl}
+use mathlib.Core.List.{List, [], _∷_}
+use Rattle.refusal.specs.Answer.{Answer, refused, full}
+use Rattle.sum.specs.Sum.{sumFrom}
+use Rattle.order.specs.Order.{numberOf}
+use Rattle.target.specs.declared.Lights.the-variants.{Broadcast}
+use Rattle.command.specs.Command.{shapeOf}
+use Rattle.command.specs.Arguments.{fits}
+use Rattle.request.specs.declared.Request.{Request}
+use Rattle.request.specs.declared.Contents.the-variants.{Basic, Unicast}
+use Rattle.request.specs.declared.Meaning.the-variants.{Group, Filter, Timers, Scene}
+use Rattle.request.specs.Meaning.{meaningOf}
+use Rattle.request.specs.Reading.{readBasic, readUnicast, readRequest}
+use Rattle.reply.specs.declared.Reply.{Reply}
+use Rattle.reply.specs.Reading.{readReply, dataOf}
+use Rattle.maps.specs.Bit.{bit, howMany, lowest}
+use Rattle.maps.specs.Maps.{gearOf, scenesOf, countOf, lowestOf}
+
+-- a case: some bytes or a number, and what is to be answered
+pub data Case : Type 0 where
+  request : List ℕ → Answer Request → Case
+  reply : List ℕ → Answer Reply → Case
+  reply-data : List ℕ → List ℕ → Case
+  types-named : ℕ → ℕ → Case
+  lowest-type : ℕ → Answer ℕ → Case
+  gear : List ℕ → Answer ℕ → Case
+  gear-present : ℕ → ℕ → Case
+  lowest-gear : ℕ → Answer ℕ → Case
+  scenes : List ℕ → Answer ℕ → Case
+
+-- what it claims
+abbrev pub Holds : Case → Type 0
+Holds (request d a) = readRequest d ≡ a
+Holds (reply d a) = readReply d ≡ a
+Holds (reply-data d l) = dataOf d ≡ l
+Holds (types-named m n) = countOf 16 m ≡ n
+Holds (lowest-type m a) = lowestOf 16 m ≡ a
+Holds (gear s a) = gearOf s ≡ a
+Holds (gear-present g n) = countOf 64 g ≡ n
+Holds (lowest-gear g a) = lowestOf 64 g ≡ a
+Holds (scenes s a) = scenesOf s ≡ a
+
+abbrev pub AllHold : List Case → Type 0
+AllHold [] = Unit {0}
+AllHold (x ∷ xs) = Holds x × AllHold xs
+
+abbrev pub cases : List Case
+cases =
+    -- accepted, group 10
+    request (0x04 ∷ 0x00 ∷ 0x01 ∷ 0x0A ∷ 0x00 ∷ 0x00 ∷ 0x00 ∷ 0x0F ∷ [])
+    (full (record { sequence = 0; command = 0x01; contents = Basic (record { a = 10; b = 0; c = 0; d = 0 }) (Group (record { 0 = 10 })) }))
+    -- accepted, port 8811
+    ∷ request (0x04 ∷ 0x00 ∷ 0x40 ∷ 0x06 ∷ 0x22 ∷ 0x6B ∷ 0xC0 ∷ 0xA8 ∷ 0x0A ∷ 0x0A ∷ 0x63 ∷ [])
+    (full (record { sequence = 0; command = 0x40; contents = Unicast 8811 (record { 0 = 192; 1 = 168; 2 = 10; 3 = 10 }) }))
+    -- accepted, mask 264, two types, lowest 3; with last byte CB (as printed): 6
+    ∷ request (0x04 ∷ 0x00 ∷ 0x31 ∷ 0x00 ∷ 0xFF ∷ 0x01 ∷ 0x08 ∷ 0xC3 ∷ [])
+    (full (record { sequence = 0; command = 0x31; contents = Basic (record { a = 0; b = 255; c = 1; d = 8 }) (Filter 0 255 264) }))
+    ∷ types-named 264 2
+    ∷ lowest-type 264 (full 3)
+    ∷ request (0x04 ∷ 0x00 ∷ 0x31 ∷ 0x00 ∷ 0xFF ∷ 0x01 ∷ 0x08 ∷ 0xCB ∷ []) (refused 6)
+    -- accepted; printed 48: 6
+    ∷ request (0x04 ∷ 0x00 ∷ 0x0C ∷ 0x40 ∷ 0x00 ∷ 0x00 ∷ 0x01 ∷ 0x49 ∷ [])
+    (full (record { sequence = 0; command = 0x0C; contents = Basic (record { a = 64; b = 0; c = 0; d = 1 }) (Timers (record { 0 = 64 }) 1) }))
+    ∷ request (0x04 ∷ 0x00 ∷ 0x0C ∷ 0x40 ∷ 0x00 ∷ 0x00 ∷ 0x01 ∷ 0x48 ∷ []) (refused 6)
+    -- accepted, broadcast
+    ∷ request (0x04 ∷ 0x00 ∷ 0xA1 ∷ 0xFF ∷ 0x00 ∷ 0x00 ∷ 0x01 ∷ 0x5B ∷ [])
+    (full (record { sequence = 0; command = 0xA1; contents = Basic (record { a = 255; b = 0; c = 0; d = 1 }) (Scene Broadcast 1) }))
+    -- accepted, no data
+    ∷ reply (0xA0 ∷ 0x00 ∷ 0x00 ∷ 0xA0 ∷ []) (full (record { kind = 0xA0; sequence = 0; n = 0 }))
+    ∷ reply-data (0xA0 ∷ 0x00 ∷ 0x00 ∷ 0xA0 ∷ []) []
+    -- accepted, data 07 0F
+    ∷ reply (0xA1 ∷ 0x00 ∷ 0x02 ∷ 0x07 ∷ 0x0F ∷ 0xAB ∷ []) (full (record { kind = 0xA1; sequence = 0; n = 2 }))
+    ∷ reply-data (0xA1 ∷ 0x00 ∷ 0x02 ∷ 0x07 ∷ 0x0F ∷ 0xAB ∷ []) (0x07 ∷ 0x0F ∷ [])
+    -- accepted; printed 8B: 6
+    ∷ reply (0xA1 ∷ 0x00 ∷ 0x03 ∷ 0x46 ∷ 0x6F ∷ 0x6F ∷ 0xE4 ∷ []) (full (record { kind = 0xA1; sequence = 0; n = 3 }))
+    ∷ reply (0xA1 ∷ 0x00 ∷ 0x03 ∷ 0x46 ∷ 0x6F ∷ 0x6F ∷ 0x8B ∷ []) (refused 6)
+    -- ten present, lowest 0
+    ∷ gear (0xFF ∷ 0x03 ∷ 0x00 ∷ 0x00 ∷ 0x00 ∷ 0x00 ∷ 0x00 ∷ 0x00 ∷ []) (full 1023)
+    ∷ gear-present 1023 10
+    ∷ lowest-gear 1023 (full 0)
+    -- scene 2 only
+    ∷ scenes (0x00 ∷ 0x04 ∷ []) (full 4)
+    ∷ []
+
+-- THE CLAIM
+pub bench : AllHold cases
+unfolding sumFrom numberOf shapeOf fits meaningOf readBasic readUnicast readRequest readReply bit howMany lowest
+bench =
+    (refl, (refl, (refl, (refl, (refl, (refl, (refl, (refl, (refl, (refl, (refl, (refl, (refl, (refl, (refl, (refl, (refl, (refl, (refl, tt)))))))))))))))))))
