@@ -1,0 +1,816 @@
+"""The cases: calls of docs/BENCH.md, written to standard output, the same bytes on every run and every machine.
+
+    python3 second/cases.py > calls
+    python3 second/cases.py count      (how many lines of each kind)
+"""
+
+import os
+import sys
+
+import opinion
+
+FRAMES = os.path.join(os.path.dirname(os.path.abspath(__file__)), "frames.txt")
+
+
+# Writing calls
+
+def call(name, *groups):
+    """The line of a call."""
+    words = [name]
+    for place, group in enumerate(groups):
+        if place > 0:
+            words.append("/")
+        words.extend("%02X" % byte for byte in group)
+    return " ".join(words)
+
+
+def wide(number, size):
+    """The number in so many bytes, high byte first."""
+    return number.to_bytes(size, "big")
+
+
+def summed(run):
+    """The run and its sum."""
+    return bytes(run) + bytes([opinion.exclusive_or(run)])
+
+
+def resummed(frame):
+    """The frame with its last byte put right."""
+    return summed(frame[:-1])
+
+
+def replaced(run, place, value):
+    """The run with another byte at the place."""
+    return run[:place] + bytes([value]) + run[place + 1:]
+
+
+def pattern(size):
+    """What a lent buffer holds before the call: no two neighbours alike."""
+    return bytes((0x91 + 7 * place) % 256 for place in range(size))
+
+
+# Frames with their right sums; whether the fields are good is not asked.
+
+MAC = bytes([0x7C, 0xBA, 0xCC, 0x2F, 0x40, 0x2E])
+
+
+def basic(sequence, command, arguments):
+    return summed(bytes([0x04, sequence, command]) + bytes(arguments))
+
+
+def unicast(sequence, port_and_address):
+    return summed(bytes([0x04, sequence, 0x40, 0x06]) + port_and_address)
+
+
+def reply(type_, sequence, data):
+    return summed(bytes([type_, sequence, len(data)]) + data)
+
+
+def event(target, type_, data):
+    return summed(b"\x5A\x43" + MAC + wide(target, 3) + bytes([type_, len(data)]) + data)
+
+
+# Numbers by chance
+
+class Chance:
+    """Numbers that look random and are the same everywhere, from a seed."""
+
+    def __init__(self, seed):
+        self.state = seed
+
+    def below(self, end):
+        """A number from 0 to end - 1."""
+        self.state = (self.state * 6364136223846793005 + 1442695040888963407) % 2 ** 64
+        return (self.state >> 33) * end >> 31
+
+    def one_in(self, count):
+        """True once in so many times."""
+        return self.below(count) == 0
+
+    def pick(self, choices):
+        """One of the choices."""
+        return choices[self.below(len(choices))]
+
+    def run(self, size):
+        """So many bytes."""
+        return bytes(self.below(256) for _ in range(size))
+
+
+# The bench cases of document 01, and the example of docs/BENCH.md
+
+BENCH_CASES = """\
+request 04 00 01 0A 00 00 00 0F
+request 04 00 40 06 22 6B C0 A8 0A 0A 63
+request 04 00 31 00 FF 01 08 C3
+request 04 00 31 00 FF 01 08 CB
+mask 01 08
+mask 08 01
+high_first 01 08
+count_types 01 08
+lowest_type 01 08
+request 04 00 0C 40 00 00 01 49
+request 04 00 0C 40 00 00 01 48
+request 04 00 A1 FF 00 00 01 5B
+reply A0 00 00 A0
+reply_data A0 00 00 A0
+reply A1 00 02 07 0F AB
+reply_data A1 00 02 07 0F AB
+reply A1 00 03 46 6F 6F E4
+reply_data A1 00 03 46 6F 6F E4
+reply A1 00 03 46 6F 6F 8B
+reply_data A1 00 03 46 6F 6F 8B
+gear FF 03 00 00 00 00 00 00
+count_gear 00 00 00 00 00 00 03 FF
+lowest_gear 00 00 00 00 00 00 03 FF
+scenes 00 04
+request 04 00 A9 50 00 00 00 FD
+request 04 00 A9 4F 00 00 00 E2
+request
+reply
+reply_data
+error_code
+event
+event_data
+write_reply A1 00 / 07 0F / FF FF FF FF FF FF FF
+feed_reply A0 00
+feed_reply 00 A0 FF
+close_reply""".split("\n")
+
+SMALL_PROGRAM_INPUT = bytes([0xA0, 0x00, 0x00, 0xA0, 0xFF, 0xA0, 0x05, 0x00, 0xA4, 0xA0, 0x00])
+
+
+def bench_cases():
+    yield from BENCH_CASES
+    yield from fed_and_closed("reply", [SMALL_PROGRAM_INPUT])
+    for size in [67, 68, 69]:
+        yield call("reply", summed(bytes([0xA1, 0x00, 64]) + pattern(size - 4)))
+        yield call("reply", summed(bytes([0xA1, 0x00, 65]) + pattern(size - 4)))
+        yield call("reply", bytes([0xA1, 0x00, 65]) + pattern(size - 3))
+    for size in [61, 62, 63]:
+        for n in [48, 49]:
+            yield call("event", summed(b"\x5A\x43" + MAC + bytes([0, 0, 59, 3, n]) + pattern(size - 14)))
+
+
+# The frames that source 002 prints
+
+def printed_frames():
+    """The frames of frames.txt, as printed."""
+    with open(FRAMES, encoding="ascii") as file:
+        return [bytes(int(word, 16) for word in line.split("\t")[2].split()) for line in file]
+
+
+def source_frames():
+    for printed in printed_frames():
+        for frame in [printed, resummed(printed)]:
+            for name in ["request", "reply", "reply_data", "error_code", "event", "event_data",
+                         "settle_request", "settle_reply"]:
+                yield call(name, frame)
+    corrected = [resummed(printed) for printed in printed_frames()]
+    for frame in corrected:
+        yield from source_frame_written(frame)
+    for line in ["request", "reply"]:
+        yield from fed_and_closed(line, printed_frames())
+        yield from fed_and_closed(line, corrected)
+
+
+def source_frame_written(frame):
+    """The writer's call for a frame of the source, an event's target in three bytes, and the reading of its data."""
+    if frame[0] == 0x04:
+        yield call("write_basic", frame[1:7], pattern(9))
+        if frame[2] == 0x40:
+            yield call("write_unicast", frame[1:2] + frame[4:10], pattern(12))
+    elif frame[0] == 0x5A:
+        longer = event(opinion.high_first(frame[8:10]), frame[10], frame[12:-1])
+        yield call("event", longer)
+        yield call("event_data", longer)
+        yield call("write_event", MAC + bytes(2) + frame[8:11], frame[12:-1], pattern(len(longer) + 1))
+    else:
+        yield call("write_reply", frame[:2], frame[3:-1], pattern(len(frame) + 1))
+        for name in ["mask", "scenes", "gear", "types", "filters"]:
+            yield call(name, frame[3:-1])
+
+
+# The ranges of the table
+
+# Both sides of every edge that the table has anywhere, and the bits of C3 and their neighbours.
+EDGES = [0, 1, 2, 3, 4, 8, 12, 13, 15, 16, 31, 32, 60, 63, 64, 79, 80, 81, 82, 126, 127, 128, 192, 194, 195, 196, 254,
+         255]
+
+
+def good_arguments(command, choose):
+    """The arguments of each case of the command's rule that stand at the end that is chosen, min or max."""
+    return [bytes(choose(place) for place in case) for case in opinion.RULES[opinion.BASIC[command]].cases]
+
+
+def with_each_place(arguments, values):
+    """The arguments with each place in turn at each of the values."""
+    return [replaced(arguments, place, value) for place in range(4) for value in values]
+
+
+def edge_arguments(command):
+    """The arguments to try with the command: each place at each edge, the other places at a good value."""
+    if command in opinion.BASIC:
+        good = good_arguments(command, min) + good_arguments(command, max)
+        return [arguments for start in good for arguments in with_each_place(start, EDGES)]
+    if command == 0x40:
+        return with_each_place(bytes([0x06, 0, 0, 0]), EDGES)
+    return with_each_place(bytes(4), [0, 255])
+
+
+def ranges():
+    for command in range(256):
+        for arguments in sorted(set(edge_arguments(command))):
+            yield call("request", basic(0, command, arguments))
+            yield call("write_basic", bytes([0, command]) + arguments, pattern(9))
+            yield call("fits", bytes([command]) + arguments)
+    for sequence in range(256):
+        yield call("request", basic(sequence, 0x01, [0, 0, 0, 0]))
+    for command in sorted(opinion.BASIC):
+        for arguments in good_arguments(command, min):
+            for value in range(256):
+                yield call("fits", bytes([command]) + replaced(arguments, 0, value))
+
+
+# Damaged datagrams
+
+SHORT_FRAMES = [
+    ("request", basic(0x00, 0x01, [10, 0, 0, 0])),
+    ("request", basic(0x7F, 0x1D, [0, 0, 0, 0])),
+    ("request", basic(0x80, 0x31, [0x40, 0x1F, 0x01, 0x08])),
+    ("request", basic(0xFF, 0xA1, [255, 0, 0, 12])),
+    ("request", unicast(0x05, bytes([0x22, 0x6B, 0xC0, 0xA8, 0x0A, 0x0A]))),
+    ("reply", reply(0xA0, 0x00, b"")),
+    ("reply", reply(0xA3, 0x11, bytes([0xB1]))),
+    ("reply", reply(0xA1, 0xFE, bytes([0x07, 0x0F, 0x00]))),
+    ("event", event(0, 3, b"")),
+    ("event", event(59, 0, bytes([0x05]))),
+    ("event", event(2 ** 24 - 1, 9, bytes([0x00, 0x0F]))),
+]
+
+LONG_FRAMES = [
+    ("reply", reply(0xA1, 0x22, pattern(64))),
+    ("event", event(256, 8, pattern(48))),
+]
+
+DATA_CALLS = {"request": [], "reply": ["reply_data", "error_code"], "event": ["event_data"]}
+
+
+def read_calls(family, datagram):
+    """The calls that read a datagram of the family."""
+    for name in [family] + DATA_CALLS[family]:
+        yield call(name, datagram)
+
+
+def byte_changes(frame, places):
+    """The frame with each of the places changed, with its sum as it was and put right."""
+    for place in places:
+        for value in [frame[place] ^ 0x01, frame[place] ^ 0x80, frame[place] ^ 0xFF]:
+            changed = replaced(frame, place, value)
+            yield changed
+            if place < len(frame) - 1:
+                yield resummed(changed)
+
+
+def size_changes(frame):
+    """The frame cut at every length and longer by 1 and 2, as it comes and with its last byte put right."""
+    for size in range(len(frame)):
+        yield frame[:size]
+        if size > 0:
+            yield resummed(frame[:size])
+    for more in [b"\x00", b"\x01", b"\x00\x00", b"\x01\x02"]:
+        yield frame + more
+        yield resummed(frame + more)
+
+
+def subsets(things):
+    """Every choice among the things, in their order."""
+    for choice in range(2 ** len(things)):
+        yield [thing for place, thing in enumerate(things) if choice >> place & 1]
+
+
+# For each frame: its family, wrong bytes and their places, and sizes too short for the family or the frame.
+FAULTS = [
+    ("request", basic(0, 0xA9, [1, 0, 0, 0]), [(0, 0xA0), (2, 0x02), (3, 80)], [0, 7]),
+    ("request", basic(0, 0x1B, [15, 12, 0, 0]), [(0, 0x05), (2, 0xFF), (6, 1)], [3, 7]),
+    ("request", unicast(0, bytes([1, 2, 3, 4, 5, 6])), [(0, 0x03), (2, 0x3F), (3, 7)], [7, 8, 9, 10]),
+    ("reply", reply(0xA1, 0, bytes([1, 2])), [(0, 0x9F), (2, 65)], [0, 3, 4, 5]),
+    ("reply", reply(0xA3, 0, bytes([0xB0])), [(0, 0xA4), (2, 255)], [1, 3, 4]),
+    ("event", event(59, 0, b""), [(0, 0x5B), (12, 49)], [0, 13]),
+    ("event", event(59, 7, b""), [(1, 0x42), (12, 1)], [2, 13]),
+    ("event", event(59, 2, bytes([1])), [(1, 0x44), (12, 0)], [13, 14]),
+]
+
+
+def fault_calls():
+    """Each frame of FAULTS with every choice of its faults at once, its sum right or not, and of every size."""
+    for family, frame, wrong_bytes, sizes in FAULTS:
+        for wrong in subsets(wrong_bytes):
+            datagram = frame
+            for place, value in wrong:
+                datagram = replaced(datagram, place, value)
+            datagram = resummed(datagram)
+            spoilt = replaced(datagram, len(frame) - 1, datagram[-1] ^ 0x55)
+            for size in sizes + [len(frame), len(frame) + 1]:
+                yield from read_calls(family, (datagram + b"\x00")[:size])
+                yield from read_calls(family, (spoilt + b"\x00")[:size])
+
+
+def damaged():
+    for family, frame in SHORT_FRAMES:
+        for datagram in list(byte_changes(frame, range(len(frame)))) + list(size_changes(frame)):
+            yield from read_calls(family, datagram)
+    for family, frame in LONG_FRAMES:
+        places = [0, 1, 2, 3, 11, 12, 13, len(frame) - 1]
+        for datagram in list(byte_changes(frame, places)) + list(size_changes(frame)):
+            yield call(family, datagram)
+    yield from fault_calls()
+    for lead in range(256):
+        yield call("request", resummed(replaced(basic(0, 0x01, [0, 0, 0, 0]), 0, lead)))
+        yield call("reply", resummed(replaced(reply(0xA0, 0, b""), 0, lead)))
+        yield call("event", resummed(replaced(event(0, 3, b""), lead % 2, lead)))
+    for n in list(range(67)) + [127, 128, 129, 192, 254, 255]:
+        for size in [4, 3 + n, 4 + n, 5 + n]:
+            datagram = summed(bytes([0xA1, 0, n]) + pattern(max(size - 4, 0)))
+            yield call("reply", datagram)
+            yield call("reply", replaced(datagram, len(datagram) - 1, datagram[-1] ^ 0x10))
+    for n in list(range(51)) + [64, 128, 255]:
+        for size in [14, 13 + n, 14 + n, 15 + n]:
+            for type_ in [3, 6]:
+                head = b"\x5A\x43" + MAC + bytes([0, 0, 1, type_, n])
+                yield call("event", summed(head + pattern(max(size - 14, 0))))
+
+
+# Writers
+
+TARGETS = [0, 1, 255, 256, 65535, 65536, 2 ** 24 - 1, 2 ** 24, 2 ** 24 + 1, 2 ** 31, 2 ** 32 - 1]
+
+
+def write_event_call(target, type_, data, buffer):
+    return call("write_event", MAC + wide(target, 4) + bytes([type_]), data, buffer)
+
+
+def writers():
+    for head in [[0, 0x01, 10, 0, 0, 0], [255, 0xA2, 127, 0, 0, 254], [1, 0x20, 0, 1, 2, 7],
+                 [0, 0xA9, 80, 0, 0, 0], [0, 0x40, 6, 0, 0, 0], [0, 0x02, 0, 0, 0, 0], [0, 0x00, 1, 1, 1, 1]]:
+        for size in range(11):
+            yield call("write_basic", head, pattern(size))
+    for port, address in [(8811, [192, 168, 10, 10]), (0, [0, 0, 0, 0]), (65535, [255, 255, 255, 255])]:
+        for size in range(14):
+            yield call("write_unicast", b"\x09" + wide(port, 2) + bytes(address), pattern(size))
+    for type_ in [0xA1, 0xA3, 0x9F, 0xA4]:
+        for n in [0, 1, 2, 8]:
+            for size in range(n + 7):
+                yield call("write_reply", [type_, 0x33], pattern(n), pattern(size))
+        for n in [63, 64, 65, 256]:
+            for size in [0, 66, 67, 68, 69, 70, n + 4]:
+                yield call("write_reply", [type_, 0], pattern(n), pattern(size))
+    for type_ in [0, 3, 7, 255]:
+        for n in [0, 1, 2]:
+            for size in range(n + 17):
+                yield write_event_call(59, type_, pattern(n), pattern(size))
+        for n in [47, 48, 49, 256]:
+            for size in [0, 60, 61, 62, 63, 64, n + 14]:
+                yield write_event_call(2 ** 24 - 1, type_, pattern(n), pattern(size))
+    for target in TARGETS:
+        for type_, n in [(0, 0), (0, 1), (9, 0), (9, 2), (0, 49), (9, 49)]:
+            for size in [0, 13 + n, 14 + n, 16 + n]:
+                yield write_event_call(target, type_, pattern(n), pattern(size))
+    for value in range(256):
+        yield call("write_reply", [value, value], b"", pattern(5))
+        yield write_event_call(value, value, b"", pattern(14))
+        yield write_event_call(value, value, bytes([value]), pattern(15))
+        yield call("write_unicast", bytes([value] * 7), pattern(11))
+    for head in range(4):
+        for data in range(4):
+            for size in range(head + data + 4):
+                yield call("frame", pattern(head), pattern(data)[::-1], pattern(size))
+
+
+# All values of a byte, and the sum
+
+def all_values():
+    for name in ["known", "shape", "error_name", "event_type", "group_target", "lights", "status", "device",
+                 "device_number"]:
+        for value in range(256):
+            yield call(name, [value])
+    for value in range(256):
+        for type_ in [0xA3, 0xA0 + value % 3]:
+            yield call("error_code", reply(type_, 0, bytes([value])))
+        yield call("error_code", reply(0xA3, 0, bytes([value, 0x01])))
+        yield call("event", event(value, value, b""))
+        yield call("event", event(value << 16, value, bytes([value])))
+        yield call("error_code", reply(0xA0 + value % 4, value, b""))
+        yield call("sum", [value])
+    chance = Chance(1)
+    for size in range(80):
+        yield call("sum", chance.run(size))
+
+
+# Masks, maps and filters
+
+# About the last entry there can be, and far beyond: the place of some, four times the number, passes 64 bits.
+ENTRY_NUMBERS = [14, 15, 16, 17, 256, 2 ** 32, 2 ** 62, 2 ** 62 + 1, 2 ** 63, 2 ** 64 - 1]
+
+
+def reply_data():
+    chance = Chance(2)
+    for size in range(10):
+        for data in [bytes(size), b"\xFF" * size, pattern(size), chance.run(size), chance.run(size)]:
+            for name in ["mask", "scenes", "gear", "types", "filters"]:
+                yield call(name, data)
+    for bits in [0, 2 ** 16 - 1] + [1 << k for k in range(16)] + [chance.below(2 ** 16) for _ in range(100)]:
+        for name in ["high_first", "mask", "count_types", "lowest_type", "scenes"]:
+            yield call(name, wide(bits, 2))
+    maps = [bytes(8), b"\xFF" * 8] + [wide(1 << k, 8) for k in range(64)]
+    thinned = [bytes(byte & chance.below(256) & chance.below(256) for byte in chance.run(8)) for _ in range(50)]
+    for map_ in maps + [chance.run(8) for _ in range(50)] + thinned:
+        for name in ["gear", "count_gear", "lowest_gear"]:
+            yield call(name, map_)
+    for bits in [0, 2 ** 32 - 1] + [1 << k for k in range(32)]:
+        yield call("types", wide(bits, 4))
+    for _ in range(50):
+        yield call("types", chance.run(4))
+    for size in range(71):
+        data = chance.run(size)
+        yield call("filters", data)
+        k = max(size - 1, 0) // 4
+        numbers = range(k + 1) if size % 4 == 1 else [0, k]
+        for number in sorted(set(numbers).union(ENTRY_NUMBERS)):
+            yield call("filter", wide(number, 8), data)
+
+
+# The book
+
+KNOWN = sorted(list(opinion.BASIC) + [opinion.UNICAST])
+
+
+def ask(command):
+    return call("ask", [command])
+
+
+def answered(number):
+    return call("answer", [number])
+
+
+def book_set(last, held):
+    return call("book_set", [last], held)
+
+
+def full_book():
+    """A full book, its refusals, and numbers used again in their turn."""
+    yield "book_fresh"
+    yield "book_show"
+    for number in range(256):
+        yield ask(KNOWN[number % len(KNOWN)])
+    yield from ["book_show", ask(0x01), ask(0x40), ask(0x00), ask(0x02), ask(0xFF), "book_show"]
+    for number in [7, 255, 0, 7, 128, 6, 127]:
+        yield answered(number)
+    for _ in range(8):
+        yield ask(0xA9)
+    yield "book_show"
+    for number in list(range(255, -1, -2)) + list(range(0, 256, 2)) + [0, 255]:
+        yield answered(number)
+    yield "book_show"
+
+
+def books_handed_in():
+    """Books with each value as an entry, with entries that are no known command, and each place for the last number."""
+    every = bytes(range(256))
+    for last in [0, 127, 255]:
+        yield book_set(last, every)
+        yield "book_show"
+        for number in range(256):
+            yield answered(number)
+        yield "book_show"
+        yield book_set(last, every)
+        for _ in range(6):
+            yield ask(0x09)
+        yield "book_show"
+    for last in [0, 1, 127, 128, 254, 255]:
+        full = bytes([0xA1] * 256)
+        for free in [last, (last + 1) % 256, (last + 255) % 256]:
+            for nothing in [0x00, 0x02, 0xFF]:
+                yield book_set(last, replaced(full, free, nothing))
+                yield from [answered(free), ask(0x02), ask(0x40), ask(0x40), answered(free), answered(free), ask(0x01)]
+        yield book_set(last, full)
+        yield from [ask(0x03), ask(0x41), answered(last), ask(0x41), "book_show"]
+        yield book_set(last, b"")
+        yield from [answered(0), ask(0x0C), ask(0x0D), ask(0x0C), answered(last), "book_show"]
+    for command in range(256):
+        yield from ["book_fresh", ask(command), answered(0), answered(0), ask(0x01)]
+
+
+def book_runs():
+    """Asks and replies as they come, on fresh books and on books handed in."""
+    chance = Chance(3)
+    for _ in range(40):
+        last = chance.pick([0, 127, 255, chance.below(256)])
+        crowded = chance.one_in(2)
+        held = bytes(chance.pick(KNOWN) if crowded and not chance.one_in(40) else chance.below(256)
+                     for _ in range(chance.pick([0, 5, 254, 255, 256])))
+        yield book_set(last, held)
+        for _ in range(60):
+            if chance.one_in(3):
+                yield answered(chance.pick([last, last - 1 & 255, last + 1 & 255, chance.below(256)]))
+            else:
+                yield ask(chance.pick(KNOWN) if not chance.one_in(8) else chance.below(256))
+        yield "book_show"
+
+
+def book():
+    for part in [full_book(), books_handed_in(), book_runs()]:
+        yield from part
+
+
+# Streams
+
+def some_request(chance):
+    """A good request frame."""
+    command = chance.pick(KNOWN)
+    sequence = chance.below(256)
+    if command == opinion.UNICAST:
+        return unicast(sequence, chance.run(6))
+    case = chance.pick(opinion.RULES[opinion.BASIC[command]].cases)
+    return basic(sequence, command, [chance.pick(sorted(place)) for place in case])
+
+
+def some_reply(chance):
+    """A good reply frame, seldom a long one."""
+    size = chance.pick([62, 63, 64]) if chance.one_in(40) else chance.below(7)
+    return reply(0xA0 + chance.below(4), chance.below(256), chance.run(size))
+
+
+def damaged_frame(chance, frame):
+    """The frame with another byte somewhere."""
+    return replaced(frame, chance.below(len(frame)), chance.below(256))
+
+
+def request_piece(chance):
+    """A piece of a request line."""
+    frame = some_request(chance)
+    return chance.pick([
+        frame,
+        frame,
+        resummed(damaged_frame(chance, frame)),
+        damaged_frame(chance, frame),
+        some_request(chance)[:3 + chance.below(5)] + frame,
+        bytes([0x04, chance.below(256), chance.below(256)]) + chance.run(chance.below(6)),
+        bytes([0x04, chance.below(256), 0x40, chance.pick([0, 5, 6, 7, 255])]) + chance.run(chance.below(8)),
+        bytes(chance.pick([0x04, 0x00, 0x40, 0x06, chance.below(256)]) for _ in range(1 + chance.below(4))),
+        frame[:chance.below(len(frame))],
+    ])
+
+
+def reply_piece(chance):
+    """A piece of a reply line."""
+    frame = some_reply(chance)
+    inner = some_reply(chance)[:24]
+    return chance.pick([
+        frame,
+        frame,
+        damaged_frame(chance, frame),
+        replaced(reply(0xA1, chance.below(256), inner), len(inner) + 3, chance.below(256)),
+        bytes([0xA0 + chance.below(4), chance.below(256), len(inner) + chance.below(4)]) + inner,
+        bytes([0xA0 + chance.below(4), chance.below(256), chance.pick([63, 64, 65, 66, 127, 128, 255])]),
+        bytes(chance.pick([0xA0, 0xA3, 0x00, 0x9F, 0xA4, chance.below(256)]) for _ in range(1 + chance.below(4))),
+        frame[:chance.below(len(frame))],
+    ])
+
+
+PIECES = {"request": request_piece, "reply": reply_piece}
+
+
+def some_stream(line, chance):
+    """A short stream of the line."""
+    return b"".join(PIECES[line](chance) for _ in range(1 + chance.below(4)))
+
+
+def cut(stream, chance):
+    """The stream in parts, cut by chance; parts may be empty."""
+    places = sorted(chance.below(len(stream) + 1) for _ in range(chance.below(5)))
+    return [stream[first:last] for first, last in zip([0] + places, places + [len(stream)])]
+
+
+def fed(reader, part):
+    """Feeds the part until "nothing", each further call with the rest of it."""
+    item = True
+    while item:
+        yield call("feed_" + reader.line, part)
+        taken, item = reader.feed(part)
+        part = part[taken:]
+
+
+def closed(reader):
+    """Closes the reader until "empty"."""
+    item = True
+    while item:
+        yield call("close_" + reader.line)
+        item = reader.close()
+
+
+def fed_and_closed(line, parts):
+    """A fresh reader, fed part by part and then closed."""
+    reader = opinion.Reader(line)
+    yield call("fresh_" + line)
+    for part in parts:
+        yield from fed(reader, part)
+    yield from closed(reader)
+
+
+def stream_calls(line, chance):
+    """The calls of one stream: fed in parts, looked at here and there, closed, at times fed again in between."""
+    reader = opinion.Reader(line)
+    if chance.one_in(8):
+        yield "fresh_" + line
+    for part in cut(some_stream(line, chance), chance):
+        yield from fed(reader, part)
+        if chance.one_in(8):
+            yield "show_" + line
+    item = True
+    while item:
+        yield "close_" + line
+        item = reader.close()
+        if item and chance.one_in(6):
+            yield from fed(reader, chance.pick([b"", PIECES[line](chance)]))
+    if chance.one_in(8):
+        yield "show_" + line
+
+
+def streams():
+    chance = Chance(4)
+    for _ in range(1500):
+        waiting = [list(stream_calls("request", chance)), list(stream_calls("reply", chance))]
+        while waiting[0] or waiting[1]:
+            calls = chance.pick([calls for calls in waiting if calls])
+            yield calls.pop(0)
+
+
+# Readers handed in, and what the rule says of bytes
+
+CLAIMS = [0, 1, 3, 4, 7, 8, 9, 10, 11, 12, 66, 67, 68, 2 ** 64 - 1]
+GREAT_CLAIMS = [69, 255, 256, 2 ** 32, 2 ** 63]
+
+NOISE = bytes([0xFF, 0x00, 0x9F, 0xA4, 0x03, 0x05]) * 11
+
+# What a reader handed in may hold: whole frames, one with an argument outside the table, a bad sum around a good frame,
+# an unknown command, bad lengths, a frame begun, noise, and nothing but zeros.
+STORES = {
+    "request": [
+        basic(2, 0x09, [0, 0, 0, 0]) + bytes([0x04, 0x07]),
+        basic(3, 0xA9, [80, 0, 0, 0]) + bytes([0x04, 0x07]),
+        bytes([0x04, 0x00, 0x01]) + basic(2, 0x09, [0, 0, 0, 0]),
+        bytes([0x04, 0x00, 0x02, 0x04, 0x00, 0x40, 0x07, 0x04, 0x00, 0x40]),
+        bytes([0x04, 0x01, 0x40, 0x06]) + pattern(6),
+        NOISE,
+        b"",
+    ],
+    "reply": [
+        reply(0xA0, 2, b"") * 3 + reply(0xA3, 3, bytes([0xB8])) * 11,
+        bytes([0xA1, 0x00, 9]) + reply(0xA1, 0, pattern(7)),
+        bytes([0xA0, 0x00, 65, 0xA3, 0xFF, 0xFF, 0xA2, 0xA2, 0xA2]),
+        bytes([0xA1, 0x01, 64]) + pattern(64),
+        NOISE,
+        b"",
+    ],
+}
+
+
+def held_calls(line, claim, store, parts):
+    """A reader handed in: looked at, fed, looked at again and closed."""
+    reader = opinion.Reader(line, claim, store)
+    yield call("hold_" + line, wide(claim, 8), store)
+    yield "show_" + line
+    for part in parts:
+        yield from fed(reader, part)
+        yield "show_" + line
+    yield from closed(reader)
+    yield "show_" + line
+
+
+def handed_in():
+    chance = Chance(5)
+    for line in ["request", "reply"]:
+        for claim in CLAIMS:
+            for store in STORES[line]:
+                yield from held_calls(line, claim, store, [])
+                yield from held_calls(line, claim, store, [b"", PIECES[line](chance)])
+        for claim in GREAT_CLAIMS:
+            yield from held_calls(line, claim, STORES[line][0], [PIECES[line](chance)])
+        for _ in range(100):
+            store = (some_stream(line, chance) + some_stream(line, chance))[:chance.below(68)]
+            claim = chance.below(opinion.HELD_MOST[line] + 2)
+            yield from held_calls(line, claim, store, cut(some_stream(line, chance), chance)[:2])
+
+
+def settling():
+    chance = Chance(6)
+    for line in ["request", "reply"]:
+        for lead in range(256):
+            yield call("settle_" + line, [lead])
+            yield call("settle_" + line, [0x04, 0xA0, lead])
+            yield call("settle_" + line, [0xA0, 0x04, lead])
+            yield call("settle_" + line, [0x04, 0x00, 0x40, lead])
+        for _ in range(60):
+            stream = some_stream(line, chance)[:16]
+            for size in range(len(stream) + 1):
+                yield call("settle_" + line, stream[:size])
+        for _ in range(300):
+            yield call("settle_" + line, some_stream(line, chance))
+
+
+# Lines that are no call
+
+def filled(line, size):
+    """The line, with blanks behind it up to the size."""
+    return line + " " * (size - len(line))
+
+
+# About the longest line: calls, lines that are none, and lines without a word.
+LONG_LINES = [
+    " " * 4095, " " * 4096, " " * 9000,
+    filled("sum 01 02", 4095), filled("sum 01 02", 4096), filled("sum 01 02", 4097), filled("sum 01 02", 8192),
+    "sum" + " 01" * 1364, "sum" + " 01" * 1365, "sum" + " 01" * 3000,
+    " " * 4086 + "sum 01 02", " " * 4087 + "sum 01 02",
+    filled("nothing", 4095), filled("nothing", 4096), filled("sum 0", 4095), filled("sum 0", 4096),
+    "x" * 4095, "x" * 4096, "frame" + " 11" * 700 + " / / " + "22 " * 660, "reply" + " A0" * 1363,
+    "feed_reply" + " 00" * 1361, "close_reply",
+]
+
+# By the rows of the table, from its first.
+NO_CALLS = [
+    "", " ", "    ",
+
+    "nothing", "Request", "REQUEST 04", "request\r", "\r", "\t", "/", "/ 01", "04", "sum: 01", "sum/ 01", "feed_",
+    "feed", "feed_line 01", "fresh", "close_event", "settle", "requests", "reques", "\x00", "\xFF\xFE",
+    "nothing zz / /",
+
+    "request 4", "request 004", "request 0G", "request G0", "request 0x04", "request 04,00", "request 04/",
+    "request /04", "request // 01", "request 04 00 \r", "sum 01\r", "sum 01\t02", "sum \t", "sum +1", "sum -1",
+    "sum 1_", "sum 0\x00", "sum \xFF\xFF", "sum \xB2\xB3", "known zz zz", "known / zz", "frame zz", "frame // /",
+    "book_fresh zz", "sum 01 02 03 0",
+
+    "request /", "request 04 / 00", "known /", "known / /", "known 01 / 02", "frame", "frame 01", "frame 01 / 02",
+    "frame / / /", "write_basic 00 01 00 00 00 00", "write_basic 00 01 00 00 00 00 / 00 / 00", "write_basic",
+    "write_reply A0 00 / 00", "write_event / /  / ", "filter 00 00 00 00 00 00 00 00", "book_fresh /",
+    "book_show / 01", "book_set 00", "book_set", "fresh_reply /", "hold_reply 00 00 00 00 00 00 00 00",
+    "close_request /", "feed_reply /", "show_request /", "settle_reply / 01",
+
+    "known", "known 01 02", "shape", "fits 01 00 00 00", "fits 01 00 00 00 00 00", "error_name 01 02", "event_type",
+    "group_target 01 02", "lights", "status 00 00", "device", "device_number 40 41", "high_first 01",
+    "high_first 01 02 03", "count_types", "lowest_type 01 02 03", "count_gear 00 00 00 00 00 00 00",
+    "lowest_gear 00 00 00 00 00 00 00 00 00", "filter / 00", "filter 00 / 00",
+    "filter 00 00 00 00 00 00 00 00 00 / 00", "write_basic /", "write_basic 00 01 00 00 00 /",
+    "write_basic 00 01 00 00 00 00 00 / 00", "write_unicast 00 22 6B C0 A8 0A / 00", "write_reply A0 / / 00",
+    "write_reply A0 00 00 / / 00", "write_event 00 00 00 00 00 00 00 00 00 00 / / 00", "ask", "ask 01 01", "answer",
+    "answer 00 00", "book_fresh 00", "book_show 00", "book_set / 01", "book_set 00 00 / 01",
+    "book_set 00 /" + " 01" * 257, "fresh_request 00", "close_reply 00", "show_reply 00", "hold_reply 00 / 01",
+    "hold_reply / 01", "hold_reply 00 00 00 00 00 00 00 01 /" + " A0" * 68,
+    "hold_request 00 00 00 00 00 00 00 01 /" + " 04" * 68,
+]
+
+# Calls with several blanks and small letters.
+CALLS_SET_OTHERWISE = [
+    "   sum   01    02  ", "sum aa Bb cC", "request 04 00 01 0a 00 00 00 0f", "  frame  01  /  02  /  03  04  05  ",
+    "frame  /  /  ", " frame / / 00", "hold_reply 00 00 00 00 00 00 00 03 / a0 00 00", " show_reply", "book_set 07 /",
+    " book_show ", "book_set 07 /" + " a9" * 256, "ask a9", "book_fresh   ",
+]
+
+# What the run carries, set before the lines that are no call and shown behind them.
+CARRIED = ["fresh_request", "fresh_reply", "feed_request 04 00", "feed_reply A1 00 02", "book_fresh", "ask 40"]
+CARRIED_SHOWN = ["show_request", "show_reply", "book_show"]
+
+
+def no_calls():
+    yield from LONG_LINES + CARRIED + NO_CALLS + CARRIED_SHOWN + CALLS_SET_OTHERWISE
+    yield "sum 04 00 01 0A 00 00 00 0F"
+
+
+KINDS = [
+    ("bench cases of document 01", bench_cases),
+    ("frames of source 002", source_frames),
+    ("ranges", ranges),
+    ("damaged datagrams", damaged),
+    ("writers", writers),
+    ("all values of a byte", all_values),
+    ("reply data", reply_data),
+    ("book", book),
+    ("streams", streams),
+    ("readers handed in", handed_in),
+    ("settling", settling),
+    ("lines that are no call", no_calls),
+]
+
+
+def main(arguments):
+    if arguments == ["count"]:
+        for name, kind in KINDS:
+            calls = list(kind())
+            print("%7d lines %8d bytes  %s" % (len(calls), sum(len(line) + 1 for line in calls), name))
+    else:
+        # An empty line between the kinds; the last line ends with the input.
+        calls = "\n\n".join("\n".join(kind()) for _, kind in KINDS)
+        sys.stdout.buffer.write(calls.encode("latin-1"))
+
+
+if __name__ == "__main__":
+    main(sys.argv[1:])

@@ -1,0 +1,802 @@
+"""TPI Advanced as document 01 has it, and the answers to the calls of docs/BENCH.md.
+
+    python3 second/opinion.py < calls > answers
+
+Written from the documents alone and in document 01's order; its words stand above what they state.
+"""
+
+import sys
+from collections import namedtuple
+
+
+class Refusal(Exception):
+    """A refused call, by its number in document 01."""
+
+    def __init__(self, number):
+        Exception.__init__(self, number)
+        self.number = number
+
+
+def refuse(number, applies):
+    """Refuses with the number where it applies. Asked in rising order, so that the lowest that applies is given."""
+    if applies:
+        raise Refusal(number)
+
+
+def span(first, last):
+    """The values from first to last, both included."""
+    return frozenset(range(first, last + 1))
+
+
+def high_first(run):
+    """The run of bytes as a number, high byte first."""
+    return int.from_bytes(run, "big")
+
+
+def low_first(run):
+    """The run of bytes as a number, low byte first."""
+    return int.from_bytes(run, "little")
+
+
+# Frames
+
+REQUEST_LEAD = 0x04
+BASIC_SIZE = 8
+
+UNICAST = 0x40  # "the one dynamic request 40"
+UNICAST_LENGTH = 6  # its length byte: port in 2, address in 4
+UNICAST_SIZE = 11
+
+REPLY_TYPES = span(0xA0, 0xA3)  # OK, ANSWER, NO_ANSWER, ERROR
+ERROR_REPLY = 0xA3
+REPLY_SIZE = 4  # and n data bytes
+REPLY_DATA_MOST = 64
+
+EVENT_LEAD = b"\x5A\x43"
+EVENT_SIZE = 14  # and n data bytes
+EVENT_DATA_MOST = 48
+EVENT_TARGET_SIZE = 3
+
+
+def exclusive_or(run):
+    """The exclusive-or of all bytes of the run."""
+    total = 0
+    for byte in run:
+        total ^= byte
+    return total
+
+
+def write_frame(head, data, buffer):
+    """Writes head, data and their sum into the lent buffer; gives the count. Bytes after the frame stay."""
+    frame = bytes(head) + bytes(data)
+    frame += bytes([exclusive_or(frame)])
+    refuse(8, len(buffer) < len(frame))
+    buffer[:len(frame)] = frame
+    return len(frame)
+
+
+# Requests and their argument ranges: the targets
+
+GEAR = span(0, 63)
+GROUP = span(0, 15)
+GROUP_OFFSET = 64  # "group number + 64"
+DEVICE_NUMBER = span(0, 63)
+DEVICE_OFFSET = 64  # "a control device address, its own number + 64"
+GROUP_TARGET = span(64, 79)
+DEVICE = span(64, 127)
+BROADCAST = frozenset([127, 255])
+STATUS_BROADCAST = frozenset([81])  # of command AB alone
+
+GEAR_OR_GROUP = GEAR | GROUP_TARGET
+LIGHTING_TARGET = GEAR_OR_GROUP | BROADCAST
+STATUS_TARGET = GEAR_OR_GROUP | STATUS_BROADCAST
+
+
+def target_words(target, broadcast):
+    """What a line target names, where these values stand for all."""
+    if target in GEAR:
+        return ["gear", target]
+    if target in GROUP_TARGET:
+        return ["group", target - GROUP_OFFSET]
+    if target in broadcast:
+        return ["broadcast"]
+    return ["no target"]
+
+
+def lights(target):
+    """What a lighting target names."""
+    return target_words(target, BROADCAST)
+
+
+def status(target):
+    """What a target of command AB names."""
+    return target_words(target, STATUS_BROADCAST)
+
+
+def group_target(group):
+    """The line target of a bare group number."""
+    refuse(7, group not in GROUP)
+    return group + GROUP_OFFSET
+
+
+def device_address(number):
+    """The control device address of a device's own number."""
+    refuse(7, number not in DEVICE_NUMBER)
+    return number + DEVICE_OFFSET
+
+
+def device_number(address):
+    """The own number of the device with this control device address."""
+    refuse(7, address not in DEVICE)
+    return address - DEVICE_OFFSET
+
+
+# Requests and their argument ranges: the table
+
+ZERO = span(0, 0)  # "every argument place not named is 0"
+ANY = span(0, 255)
+ALL_INSTANCES = frozenset([255])
+INSTANCE = span(0, 31)
+SCENE = span(0, 12)
+START = span(0, 63)
+EMIT = frozenset(bits for bits in range(256) if bits & 0xC3 == bits)  # "no bits outside C3"
+ALL_ADDRESSES = frozenset([255])
+
+# A rule is a list of cases, each with the values it lets stand in A, B, C and D. Arguments fit where one case lets
+# them stand. Beside the cases: the words for what the arguments mean.
+Rule = namedtuple("Rule", "cases meaning")
+
+RULES = {
+    "group": Rule([(GROUP, ZERO, ZERO, ZERO)], lambda a, b, c, d: ["group", a]),
+    "emit": Rule([(EMIT, ZERO, ZERO, ZERO)], lambda a, b, c, d: ["emit", a]),
+    "bare": Rule([(ZERO, ZERO, ZERO, ZERO)], lambda a, b, c, d: ["nothing"]),
+    "timers": Rule([(DEVICE, ZERO, ZERO, INSTANCE)], lambda a, b, c, d: ["device", a, "instance", d]),
+    "group_scene": Rule([(GROUP, SCENE, ZERO, ZERO)], lambda a, b, c, d: ["group", a, "scene", b]),
+    "channel": Rule([(ZERO, ANY, ANY, ANY)],
+                    lambda a, b, c, d: ["universe", b, "channel", high_first([c, d])]),
+    "filter": Rule([(GEAR, ALL_INSTANCES, ANY, ANY), (DEVICE, INSTANCE, ANY, ANY)],
+                   lambda a, b, c, d: ["address", a, "instance", b, "mask", high_first([c, d])]),
+    "query": Rule([(GEAR | ALL_ADDRESSES, START, ZERO, ALL_INSTANCES), (DEVICE, START, ZERO, INSTANCE | ALL_INSTANCES)],
+                  lambda a, b, c, d: ["address", a, "start", b, "instance", d]),
+    "gear": Rule([(GEAR, ZERO, ZERO, ZERO)], lambda a, b, c, d: ["gear", a]),
+    "inhibit": Rule([(LIGHTING_TARGET, ZERO, ANY, ANY)],
+                    lambda a, b, c, d: lights(a) + ["seconds", high_first([c, d])]),
+    "scene": Rule([(LIGHTING_TARGET, ZERO, ZERO, SCENE)], lambda a, b, c, d: lights(a) + ["scene", d]),
+    "level": Rule([(LIGHTING_TARGET, ZERO, ZERO, ANY)], lambda a, b, c, d: lights(a) + ["level", d]),
+    "lights": Rule([(LIGHTING_TARGET, ZERO, ZERO, ZERO)], lambda a, b, c, d: lights(a)),
+    "address": Rule([(GEAR_OR_GROUP, ZERO, ZERO, ZERO)], lambda a, b, c, d: lights(a)),
+    "status": Rule([(STATUS_TARGET, ZERO, ZERO, ZERO)], lambda a, b, c, d: status(a)),
+}
+
+# The commands of basic shape. "With 40 these are 32 commands; each other number is unknown."
+BASIC = {
+    0x01: "group",
+    0x08: "emit",
+    0x09: "bare", 0x0A: "bare", 0x0B: "bare", 0x1C: "bare", 0x1D: "bare", 0x41: "bare",
+    0x0C: "timers",
+    0x1A: "group",
+    0x1B: "group_scene",
+    0x20: "channel",
+    0x31: "filter", 0x33: "filter",
+    0x32: "query",
+    0x34: "gear", 0xAC: "gear",
+    0xA0: "inhibit",
+    0xA1: "scene",
+    0xA2: "level",
+    0xA3: "lights", 0xA4: "lights", 0xA5: "lights", 0xA6: "lights", 0xA7: "lights", 0xA8: "lights", 0xA9: "lights",
+    0xAA: "address", 0xAD: "address", 0xAE: "address",
+    0xAB: "status",
+}
+
+
+def known(command):
+    """Whether the command is one of the 32."""
+    return command == UNICAST or command in BASIC
+
+
+def request_size(command):
+    """The size of the frame of a known command."""
+    return UNICAST_SIZE if command == UNICAST else BASIC_SIZE
+
+
+# "Request 40 takes any port and address."
+def fits(command, arguments):
+    """Whether the arguments of a known command lie in the table."""
+    if command == UNICAST:
+        return True
+    return any(all(argument in place for argument, place in zip(arguments, case))
+               for case in RULES[BASIC[command]].cases)
+
+
+# Requests: behind the command stand the four arguments, or of request 40 the length byte, the port and the address.
+
+Request = namedtuple("Request", "sequence command arguments")
+
+
+def read_request(datagram):
+    """Reads a request datagram."""
+    refuse(1, len(datagram) < BASIC_SIZE)
+    refuse(2, datagram[0] != REQUEST_LEAD)
+    command = datagram[2]
+    refuse(3, not known(command))
+    refuse(4, command == UNICAST and datagram[3] != UNICAST_LENGTH)
+    refuse(5, len(datagram) != request_size(command))
+    refuse(6, exclusive_or(datagram) != 0)
+    arguments = datagram[3:-1]
+    refuse(7, not fits(command, arguments))
+    return Request(datagram[1], command, arguments)
+
+
+def write_basic(sequence, command, arguments, buffer):
+    """Writes a basic request into the lent buffer; gives the count."""
+    refuse(3, command not in BASIC)
+    refuse(7, not fits(command, arguments))
+    return write_frame([REQUEST_LEAD, sequence, command], arguments, buffer)
+
+
+def write_unicast(sequence, port_and_address, buffer):
+    """Writes a request 40 into the lent buffer; gives the count."""
+    return write_frame([REQUEST_LEAD, sequence, UNICAST, UNICAST_LENGTH], port_and_address, buffer)
+
+
+# Replies
+
+Reply = namedtuple("Reply", "type sequence data")
+
+# Source 002, "Error Codes", in the table's order.
+ERROR_CODES = [0x01, 0x02, 0x03, 0x04, 0xB0, 0xB1, 0xB2, 0xB3, 0xB4, 0xB5, 0xB6, 0xB7, 0xB8]
+
+
+def read_reply(datagram):
+    """Reads a reply datagram."""
+    refuse(1, len(datagram) < REPLY_SIZE)
+    refuse(2, datagram[0] not in REPLY_TYPES)
+    refuse(4, datagram[2] > REPLY_DATA_MOST)
+    refuse(5, len(datagram) != REPLY_SIZE + datagram[2])
+    refuse(6, exclusive_or(datagram) != 0)
+    return Reply(datagram[0], datagram[1], datagram[3:-1])
+
+
+def write_reply(type_, sequence, data, buffer):
+    """Writes a reply into the lent buffer; gives the count."""
+    refuse(2, type_ not in REPLY_TYPES)
+    refuse(4, len(data) > REPLY_DATA_MOST)
+    return write_frame([type_, sequence, len(data)], data, buffer)
+
+
+def error_name(code):
+    """The place of an error code in source 002's table, from 1; None for a code without a name."""
+    return ERROR_CODES.index(code) + 1 if code in ERROR_CODES else None
+
+
+def error_code(reply):
+    """The code of a reply: the first data byte of an ERROR reply that has one, else None."""
+    return reply.data[0] if reply.type == ERROR_REPLY and reply.data else None
+
+
+# Events
+
+Event = namedtuple("Event", "mac target type data")
+
+# Source 002, "TPI Event Types", 0 to 9, as docs/BENCH.md writes them.
+EVENT_NAMES = ["BUTTON_PRESS", "BUTTON_HOLD", "ABSOLUTE_INPUT", "LEVEL_CHANGE", "GROUP_LEVEL_CHANGE", "SCENE_CHANGE",
+               "IS_OCCUPIED", "IS_UNOCCUPIED", "COLOUR_CHANGED", "PROFILE_CHANGED"]
+
+# "Event types 0, 1, 2, 6, 7 carry an instance number as first data byte, so they need n of at least 1."
+INSTANCE_EVENTS = frozenset([0, 1, 2, 6, 7])
+
+
+def read_event(datagram):
+    """Reads an event datagram."""
+    refuse(1, len(datagram) < EVENT_SIZE)
+    refuse(2, datagram[:2] != EVENT_LEAD)
+    refuse(4, datagram[12] > EVENT_DATA_MOST)
+    refuse(5, len(datagram) != EVENT_SIZE + datagram[12])
+    refuse(6, exclusive_or(datagram) != 0)
+    event = Event(datagram[2:8], high_first(datagram[8:11]), datagram[11], datagram[13:-1])
+    refuse(7, event.type in INSTANCE_EVENTS and not event.data)
+    return event
+
+
+def write_event(mac, target, type_, data, buffer):
+    """Writes an event into the lent buffer; gives the count."""
+    refuse(4, len(data) > EVENT_DATA_MOST)
+    refuse(7, target >= 256 ** EVENT_TARGET_SIZE)
+    refuse(7, type_ in INSTANCE_EVENTS and not data)
+    head = EVENT_LEAD + mac + target.to_bytes(EVENT_TARGET_SIZE, "big") + bytes([type_, len(data)])
+    return write_frame(head, data, buffer)
+
+
+def event_name(type_):
+    """The name of an event type."""
+    return EVENT_NAMES[type_] if type_ < len(EVENT_NAMES) else "OTHER"
+
+
+def event_instance(event):
+    """The instance number of an event that carries one, else None."""
+    return event.data[0] if event.type in INSTANCE_EVENTS else None
+
+
+# Four orders in reply data
+
+FILTER_ENTRY_SIZE = 4  # address, instance, mask high, mask low
+FILTER_ENTRIES_MOST = 15
+
+
+# "Event mask: high byte first. Bit k stands for event type k."
+def read_mask(data):
+    """The mask as a number."""
+    refuse(11, len(data) != 2)
+    return high_first(data)
+
+
+# "Scenes of a group: 2 bytes, scenes 8-15 first, then 0-7."
+def read_scenes(data):
+    """The scenes as a number, whose bit k stands for scene k."""
+    refuse(11, len(data) != 2)
+    return high_first(data)
+
+
+# "Gear present: 8 bytes, byte 0 holds gear 0-7, lowest gear in the lowest bit."
+def read_gear(data):
+    """The gear as a number, whose bit k stands for gear k."""
+    refuse(11, len(data) != 8)
+    return low_first(data)
+
+
+# "Gear types: 4 bytes, low byte first."
+def read_types(data):
+    """The types as a number, whose bit k stands for type k."""
+    refuse(11, len(data) != 4)
+    return low_first(data)
+
+
+def count_bits(bits):
+    """How many the mask or map names."""
+    return bin(bits).count("1")
+
+
+def lowest_bit(bits):
+    """The lowest that the mask or map names."""
+    refuse(12, bits == 0)
+    lowest = 0
+    while not bits >> lowest & 1:
+        lowest += 1
+    return lowest
+
+
+# "Filters: a mode byte, then k entries of address, instance, mask high, mask low; k is 0 to 15."
+def read_filters(data):
+    """The mode and the entries."""
+    refuse(11, len(data) not in [1 + FILTER_ENTRY_SIZE * k for k in range(FILTER_ENTRIES_MOST + 1)])
+    return data[0], [data[at:at + FILTER_ENTRY_SIZE] for at in range(1, len(data), FILTER_ENTRY_SIZE)]
+
+
+def read_filter(data, number):
+    """The entry with this number, from 0: address, instance and mask."""
+    entries = read_filters(data)[1]
+    refuse(12, number >= len(entries))
+    entry = entries[number]
+    return entry[0], entry[1], high_first(entry[2:])
+
+
+# The book of unanswered requests
+
+SEQUENCE_NUMBERS = 256
+
+
+class Book:
+    """Under each sequence number the command asked; an entry that is no known command is nothing held."""
+
+    def __init__(self, last=255, held=b""):
+        self.last = last
+        self.held = bytearray(held) + bytes(SEQUENCE_NUMBERS - len(held))
+
+    # "Takes the first free number after the last one given, counting past 255 to 0 and trying the last one itself at
+    # the end; it becomes the last."
+    def ask(self, command):
+        """Writes the command down; gives its number."""
+        refuse(3, not known(command))
+        in_turn = [(self.last + step) % SEQUENCE_NUMBERS for step in range(1, SEQUENCE_NUMBERS + 1)]
+        free = [number for number in in_turn if not known(self.held[number])]
+        refuse(9, not free)
+        self.last = free[0]
+        self.held[self.last] = command
+        return self.last
+
+    # "A reply with an awaited number frees it and returns its command."
+    def answer(self, number):
+        """Strikes the number out; gives its command."""
+        command = self.held[number]
+        refuse(10, not known(command))
+        self.held[number] = 0
+        return command
+
+
+# Reading a line
+
+LEADS = {"request": frozenset([REQUEST_LEAD]), "reply": REPLY_TYPES}
+HELD_MOST = {"request": 10, "reply": 67}
+STORE_SIZE = 67
+
+
+def settle(line, run):
+    """Rules 1 to 3 at the front of the run: the item and its byte count; None where a rule needs more bytes."""
+    if len(run) < 1:
+        return None
+    if run[0] not in LEADS[line]:
+        return 2, 1
+    if len(run) < 3:
+        return None
+    if line == "request":
+        if not known(run[2]):
+            return 3, 1
+        if run[2] == UNICAST and len(run) < 4:
+            return None
+        if run[2] == UNICAST and run[3] != UNICAST_LENGTH:
+            return 4, 1
+        size = request_size(run[2])
+    else:
+        if run[2] > REPLY_DATA_MOST:
+            return 4, 1
+        size = REPLY_SIZE + run[2]
+    if len(run) < size:
+        return None
+    if exclusive_or(run[:size]) != 0:
+        return 6, 1
+    if line == "request" and not fits(run[2], run[3:size - 1]):
+        return 7, size
+    return 0, size
+
+
+def settle_by(line, held, part):
+    """The fewest bytes of the part that, behind those held, settle the next item, and that item; None where none do."""
+    for taken in range(len(part) + 1):
+        item = settle(line, held + part[:taken])
+        if item is not None:
+            return taken, item
+    return None
+
+
+def items(line, stream):
+    """The rule for the whole stream, closed at its end: each item's number and its bytes."""
+    while stream:
+        number, count = settle(line, stream) or (1, 1)
+        yield number, stream[:count]
+        stream = stream[count:]
+
+
+class Reader:
+    """A reader of a line: how many bytes it claims to hold, and its store."""
+
+    def __init__(self, line, claim=0, store=b""):
+        self.line = line
+        self.claim = claim
+        self.store = store + bytes(STORE_SIZE - len(store))
+
+    # "One handed in that claims more is taken as a fresh reader; any other bytes held are read by the rules as they
+    # stand."
+    def held(self):
+        """The bytes held."""
+        return b"" if self.claim > HELD_MOST[self.line] else self.store[:self.claim]
+
+    def hold(self, run):
+        """Holds these bytes from now on."""
+        self.claim = len(run)
+        self.store = run + bytes(STORE_SIZE - len(run))
+
+    def feed(self, part):
+        """One feeding call: how many bytes of the part it takes, and the item, or None for "nothing yet"."""
+        held = self.held()
+        settled = settle_by(self.line, held, part)
+        if settled is None:
+            self.hold(held + part)
+            return len(part), None
+        taken, (number, count) = settled
+        run = held + part[:taken]
+        self.hold(run[count:])
+        return taken, (number, run[:count])
+
+    def close(self):
+        """One closing call: the first item of the bytes held as the stream ends there, or None for "empty"."""
+        held = self.held()
+        item = next(items(self.line, held), None)
+        self.hold(held[len(item[1]):] if item else b"")
+        return item
+
+
+# The calls of docs/BENCH.md: words and groups
+
+LINE_MOST = 4095
+HEX_DIGITS = frozenset(b"0123456789ABCDEFabcdef")
+
+SOME = range(LINE_MOST)  # "any number of bytes, none too": no line holds more
+
+
+def exactly(size):
+    """The one size of a group."""
+    return range(size, size + 1)
+
+
+def at_most(size):
+    """The sizes of a group from none."""
+    return range(size + 1)
+
+
+def text(fields):
+    """The fields of an answer: numbers in decimal, bytes as two capital hexadecimal digits each, words as they are."""
+    words = []
+    for field in fields:
+        if isinstance(field, (bytes, bytearray)):
+            words.extend("%02X" % byte for byte in field)
+        else:
+            words.append(str(field))
+    return " ".join(words)
+
+
+# The fields of the answers
+
+def request_fields(datagram):
+    request = read_request(datagram)
+    fields = ["sequence", request.sequence, "command", bytes([request.command])]
+    if request.command == UNICAST:
+        return fields + ["port", high_first(request.arguments[1:3]), "address"] + list(request.arguments[3:])
+    meaning = RULES[BASIC[request.command]].meaning
+    return fields + ["arguments", request.arguments] + meaning(*request.arguments)
+
+
+def reply_fields(datagram):
+    reply = read_reply(datagram)
+    return ["type", bytes([reply.type]), "sequence", reply.sequence, "n", len(reply.data)]
+
+
+def error_code_fields(datagram):
+    code = error_code(read_reply(datagram))
+    if code is None:
+        return ["absent"]
+    return ["code", bytes([code])] + (error_name_fields(code) if error_name(code) else [])
+
+
+def error_name_fields(code):
+    return ["name", error_name(code)] if error_name(code) else ["none"]
+
+
+def event_fields(datagram):
+    event = read_event(datagram)
+    instance = event_instance(event)
+    return (["mac", event.mac, "target", event.target] + event_type_fields(event.type)
+            + ["n", len(event.data), "instance", "absent" if instance is None else instance])
+
+
+def event_type_fields(type_):
+    return ["type", type_, event_name(type_)]
+
+
+def data_fields(read):
+    """The data part that a reader of datagrams gives; "asked of a refused datagram", it is empty."""
+    def fields(datagram):
+        try:
+            return ["data", read(datagram).data]
+        except Refusal:
+            return ["data"]
+    return fields
+
+
+def shape_fields(command):
+    if command in BASIC:
+        return ["basic", BASIC[command]]
+    return ["unicast" if known(command) else "unknown"]
+
+
+def fits_fields(command, arguments):
+    if command not in BASIC:
+        return ["no rule"]
+    return ["fits" if fits(command, arguments) else "outside"]
+
+
+def filters_fields(data):
+    mode, entries = read_filters(data)
+    return ["mode", mode, "entries", len(entries)]
+
+
+def filter_fields(number, data):
+    address, instance, mask = read_filter(data, high_first(number))
+    return ["address", address, "instance", instance, "mask", mask]
+
+
+def settle_fields(line, run):
+    settled = settle_by(line, b"", run)
+    if settled is None:
+        return ["more"]
+    taken, (number, count) = settled
+    return ["item", number, "count", count, "by", taken]
+
+
+def item_fields(item):
+    number, run = item
+    return ["item", number, "count", len(run), "bytes", run]
+
+
+# The calls, by name: the sizes of their groups, and the answer
+
+def plain(fields):
+    """A call that lends no buffer: the fields of its answer from its groups."""
+    def answer(*groups):
+        try:
+            return text([0] + fields(*groups))
+        except Refusal as refusal:
+            return text([refusal.number])
+    return answer
+
+
+def lent(write):
+    """A call whose last group is a lent buffer: the count, or the refusal, and the buffer before and after."""
+    def answer(*groups):
+        buffer = bytearray(groups[-1])
+        try:
+            fields = [0, "count", write(*(groups[:-1] + (buffer,)))]
+        except Refusal as refusal:
+            fields = [refusal.number]
+        return text(fields + ["before", groups[-1], "after", buffer])
+    return answer
+
+
+DATAGRAM_CALLS = {
+    "request": ([SOME], plain(request_fields)),
+    "write_basic": ([exactly(6), SOME],
+                    lent(lambda head, buffer: write_basic(head[0], head[1], head[2:], buffer))),
+    "write_unicast": ([exactly(7), SOME],
+                      lent(lambda head, buffer: write_unicast(head[0], head[1:], buffer))),
+    "reply": ([SOME], plain(reply_fields)),
+    "reply_data": ([SOME], plain(data_fields(read_reply))),
+    "error_code": ([SOME], plain(error_code_fields)),
+    "write_reply": ([exactly(2), SOME, SOME],
+                    lent(lambda head, data, buffer: write_reply(head[0], head[1], data, buffer))),
+    "event": ([SOME], plain(event_fields)),
+    "event_data": ([SOME], plain(data_fields(read_event))),
+    "write_event": ([exactly(11), SOME, SOME],
+                    lent(lambda head, data, buffer:
+                         write_event(head[:6], high_first(head[6:10]), head[10], data, buffer))),
+}
+
+PART_CALLS = {
+    "sum": ([SOME], plain(lambda run: ["sum", bytes([exclusive_or(run)])])),
+    "frame": ([SOME, SOME, SOME], lent(write_frame)),
+    "known": ([exactly(1)], plain(lambda command: ["known" if known(command[0]) else "unknown"])),
+    "shape": ([exactly(1)], plain(lambda command: shape_fields(command[0]))),
+    "fits": ([exactly(5)], plain(lambda run: fits_fields(run[0], run[1:]))),
+    "error_name": ([exactly(1)], plain(lambda code: error_name_fields(code[0]))),
+    "event_type": ([exactly(1)], plain(lambda number: event_type_fields(number[0]))),
+    "group_target": ([exactly(1)], plain(lambda group: ["target", group_target(group[0])])),
+    "lights": ([exactly(1)], plain(lambda target: lights(target[0]))),
+    "status": ([exactly(1)], plain(lambda target: status(target[0]))),
+    "device": ([exactly(1)], plain(lambda number: ["device", device_address(number[0])])),
+    "device_number": ([exactly(1)], plain(lambda address: ["number", device_number(address[0])])),
+}
+
+REPLY_DATA_CALLS = {
+    "high_first": ([exactly(2)], plain(lambda run: ["number", high_first(run)])),
+    "mask": ([SOME], plain(lambda data: ["bits", read_mask(data)])),
+    "count_types": ([exactly(2)], plain(lambda mask: ["count", count_bits(high_first(mask))])),
+    "lowest_type": ([exactly(2)], plain(lambda mask: ["lowest", lowest_bit(high_first(mask))])),
+    "scenes": ([SOME], plain(lambda data: ["bits", read_scenes(data)])),
+    "gear": ([SOME], plain(lambda data: ["bits", read_gear(data)])),
+    "count_gear": ([exactly(8)], plain(lambda gear: ["count", count_bits(high_first(gear))])),
+    "lowest_gear": ([exactly(8)], plain(lambda gear: ["lowest", lowest_bit(high_first(gear))])),
+    "types": ([SOME], plain(lambda data: ["bits", read_types(data)])),
+    "filters": ([SOME], plain(filters_fields)),
+    "filter": ([exactly(8), SOME], plain(filter_fields)),
+}
+
+
+class Bench:
+    """One run of the bench, with the book and the two readers that it carries."""
+
+    def __init__(self):
+        self.book = Book()
+        self.readers = {}
+        self.calls = {}
+        self.calls.update(DATAGRAM_CALLS)
+        self.calls.update(PART_CALLS)
+        self.calls.update(REPLY_DATA_CALLS)
+        self.calls.update(self.book_calls())
+        for line in ["request", "reply"]:
+            self.readers[line] = Reader(line)
+            self.calls.update(self.line_calls(line))
+
+    def book_calls(self):
+        """The calls on the book that is carried."""
+        def set_book(last=b"\xFF", held=b""):
+            self.book = Book(last[0], held)
+            return []
+
+        def show():
+            held = [bytes([number, command]) for number, command in enumerate(self.book.held) if command]
+            return ["last", self.book.last, "held"] + held
+
+        return {
+            "book_fresh": ([exactly(0)], plain(lambda none: set_book())),
+            "book_set": ([exactly(1), at_most(SEQUENCE_NUMBERS)], plain(set_book)),
+            "ask": ([exactly(1)], plain(lambda command: ["number", self.book.ask(command[0])])),
+            "answer": ([exactly(1)], plain(lambda number: ["command", bytes([self.book.answer(number[0])])])),
+            "book_show": ([exactly(0)], plain(lambda none: show())),
+        }
+
+    def line_calls(self, line):
+        """The calls on the reader of this line that is carried."""
+        def set_reader(claim=b"", store=b""):
+            self.readers[line] = Reader(line, high_first(claim), store)
+            return []
+
+        def feed(part):
+            taken, item = self.readers[line].feed(part)
+            return ["taken", taken] + (item_fields(item) if item else ["nothing"])
+
+        def close():
+            item = self.readers[line].close()
+            return item_fields(item) if item else ["empty"]
+
+        def show():
+            reader = self.readers[line]
+            return ["held", reader.claim, "bytes", reader.store[:reader.claim]]
+
+        return {
+            "fresh_" + line: ([exactly(0)], plain(lambda none: set_reader())),
+            "hold_" + line: ([exactly(8), at_most(STORE_SIZE)], plain(set_reader)),
+            "feed_" + line: ([SOME], plain(feed)),
+            "close_" + line: ([exactly(0)], plain(lambda none: close())),
+            "show_" + line: ([exactly(0)], plain(lambda none: show())),
+            "settle_" + line: ([SOME], plain(lambda run: settle_fields(line, run))),
+        }
+
+    def answer(self, line):
+        """The answer to a line, by the first row of "What is no call" that applies, or the call's own."""
+        words = [word for word in line.split(b" ") if word]
+        if not words:
+            return ""
+        if len(line) > LINE_MOST:
+            return "? line too long"
+        name = words[0].decode("latin-1")
+        if name not in self.calls:
+            return "? no such call"
+        if not all(word == b"/" or is_byte(word) for word in words[1:]):
+            return "? not a byte"
+        groups = grouped(words[1:])
+        sizes, answer = self.calls[name]
+        if len(groups) != len(sizes):
+            return "? wrong number of groups"
+        if not all(len(group) in size for group, size in zip(groups, sizes)):
+            return "? wrong number of bytes"
+        return answer(*groups)
+
+
+def is_byte(word):
+    """Whether the word is two hexadecimal digits."""
+    return len(word) == 2 and all(digit in HEX_DIGITS for digit in word)
+
+
+def grouped(words):
+    """The groups of bytes; each "/" ends one and begins the next."""
+    groups = [bytearray()]
+    for word in words:
+        if word == b"/":
+            groups.append(bytearray())
+        else:
+            groups[-1].append(int(word, 16))
+    return [bytes(group) for group in groups]
+
+
+def lines(run):
+    """The lines of the input: each ends at a line feed, or at the end of the input."""
+    parts = run.split(b"\n")
+    return parts if parts[-1] else parts[:-1]
+
+
+def main():
+    bench = Bench()
+    for line in lines(sys.stdin.buffer.read()):
+        sys.stdout.buffer.write(bench.answer(line).encode("ascii") + b"\n")
+
+
+if __name__ == "__main__":
+    main()
