@@ -1,6 +1,6 @@
 -- What a datagram says as an event, over the width of the target. Document 01, "Refusals, by number": 1, 2, 4, 5, 6, 7, the lowest that applies.
 use Prim.Native.Nat.{ℕ, _+_, _≤_}
-use mathlib.Core.Path.{_≡_, sym, ap, _∙_}
+use mathlib.Core.Path.{_≡_, ap}
 use mathlib.Core.Bool.{false, not, _&&_}
 use mathlib.Core.List.{List, []}
 use lib.ListN.{length, take, drop}
@@ -73,10 +73,6 @@ pub accepts : (w : ℕ) (d : List ℕ) (r : Event) → 11 + w ≤ length d → b
 unfolding readEvent
 accepts w d r h₁ z c h₄ h₅ h₆ h₇ e =
     rw (le-leb (11 + w) (length d) h₁, eq-eqb (byte 0 d) 0x5A z, eq-eqb (byte 1 d) 0x43 c, le-leb (byte (countAt w) d) 48 h₄, eq-eqb (length d) (byte (countAt w) d + (11 + w)) h₅, eq-eqb (sumOf d) 0 h₆, h₇, e)
-
--- what is known of a datagram whose reading was looked at
-pub told : (w : ℕ) (d : List ℕ) (x : Reading) {v : Reading} → said x ≡ readEvent w d → x ≡ v → readEvent w d ≡ said v
-told w d x e f = sym e ∙ ap said f
 
 -- an accepted event has its data
 pub read-fits : (w : ℕ) (d : List ℕ) (r : Event) → readEvent w d ≡ full r → (length d ≡ r .n + (11 + w)) × (r .n ≤ 48)

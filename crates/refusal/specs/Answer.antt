@@ -1,6 +1,6 @@
 -- Document 01, "Refusals, by number": "Given exactly when" and "The lowest number that applies is given, everywhere."
 use Prim.Native.Nat.{ℕ}
-use mathlib.Core.Path.{_≡_, refl, sym, _∙_}
+use mathlib.Core.Path.{_≡_, refl, sym, ap, _∙_}
 use mathlib.Core.Bool.{Bool, true, false}
 use native.Mathlib.Omega.{arith}
 use Rattle.refusal.specs.Test.{pick}
@@ -27,3 +27,7 @@ full-one e = cc
 -- the law `..-one` of its own `said`
 pub determined : {X A : Type 0} (said : X → Answer A) → ((x y : X) → said x ≡ said y → x ≡ y) → {v : Answer A} (x y : X) → said x ≡ v → said y ≡ v → x ≡ y
 determined said one x y p q = one x y (p ∙ sym q)
+
+-- what an answer says, told by a look at which answer it is
+pub told : {X A : Type 0} (said : X → Answer A) {v : Answer A} (x : X) {y : X} → said x ≡ v → x ≡ y → v ≡ said y
+told said x e f = sym e ∙ ap said f

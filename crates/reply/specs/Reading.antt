@@ -1,6 +1,6 @@
 -- What a datagram says as a reply. Document 01, "Refusals, by number": 1, 2, 4, 5, 6, the lowest that applies.
 use Prim.Native.Nat.{ℕ, _+_, _≤_}
-use mathlib.Core.Path.{_≡_, sym, ap, _∙_}
+use mathlib.Core.Path.{_≡_, ap}
 use mathlib.Core.List.{List, []}
 use lib.ListN.{length, take, drop}
 use lib.Dec.{leb, eqb}
@@ -96,10 +96,6 @@ codeIn (full r) d = full (pick (eqb (r .kind) 0xA3) (pick (eqb (r .n) 0) absent 
 
 abbrev pub codeOf : List ℕ → Answer ErrorCode
 codeOf d = codeIn (readReply d) d
-
--- what is known of a datagram whose reading was looked at
-pub told : (d : List ℕ) (x : Reading) {v : Reading} → said x ≡ readReply d → x ≡ v → readReply d ≡ said v
-told d x e f = sym e ∙ ap said f
 
 -- an accepted reply has its data
 pub read-fits : (d : List ℕ) (r : Reply) → readReply d ≡ full r → (length d ≡ r .n + 4) × (r .n ≤ 64)

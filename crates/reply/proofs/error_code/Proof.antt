@@ -1,14 +1,14 @@
 use mathlib.Core.Path.{_≡_}
 use native.Mathlib.Omega.{arith}
 use borrow.Author.Tests.{eq-eqb, ne-eqb}
-use Rattle.refusal.specs.Answer.{full}
-use Rattle.reply.specs.Reading.{readReply, read-fits, told}
+use Rattle.refusal.specs.Answer.{full, told}
+use Rattle.reply.specs.Reading.{readReply, read-fits, said}
 use borrow.Author.Needs.{needs}
 use Rattle.reply.proofs.error_code.Statement.{statement}
 use Rattle.reply.proofs.error_code.Tie as tie
 
 good : (c : tie.After-struct-known) → readReply (c .before .before .before .before .before .before .args .s .now) ≡ full (c .before .before .r .given .0 .0)
-good c = told (c .before .before .before .before .before .before .args .s .now) (c .before .before .before .before .read .result) (c .before .before .before .before .read .ensures) (c .before .before .r .given .1)
+good c = told said (c .before .before .before .before .read .result) (c .before .before .before .before .read .ensures) (c .before .before .r .given .1)
 
 read-requires : tie.Need-read-requires
 read-requires c κs = search needs
@@ -37,7 +37,7 @@ returns-3 c =
     rw (good (c .before .before .before .before .before), eq-eqb (c .before .before .before .before .before .before .before .r .given .0 .0 .kind) 0xA3 (c .before .before .before .before .if1 .left), ne-eqb (c .before .before .before .before .before .before .before .r .given .0 .0 .n) 0 (c .before .before .if2 .left)) (c .named .ensures)
 
 returns-4 : tie.Need-returns-4
-returns-4 c = rw (told (c .before .before .before .before .before .args .s .now) (c .before .before .before .read .result) (c .before .before .before .read .ensures) (c .before .r2 .given .1))
+returns-4 c = rw (told said (c .before .before .before .read .result) (c .before .before .before .read .ensures) (c .before .r2 .given .1))
 
 pub error-code-spec : {M : Type 1} → statement M
 error-code-spec =

@@ -1,0 +1,18 @@
+use borrow.Author.Needs.{needs}
+use Rattle.wickanchor.proofs.request_out.Statement.{statement}
+use Rattle.wickanchor.proofs.request_out.Tie as tie
+
+enum-known-contents : tie.Need-enum-known-contents
+enum-known-contents c = search needs
+
+enum-known-contents-2 : tie.Need-enum-known-contents-2
+enum-known-contents-2 c = search needs
+
+returns : tie.Need-returns
+returns c = rw (c .before .contents .given .1)
+
+returns-2 : tie.Need-returns-2
+returns-2 c = rw (c .before .contents2 .given .1)
+
+pub request-out-spec : {M : Type 1} → statement M
+request-out-spec = tie.close (tie.spec enum-known-contents enum-known-contents-2 returns returns-2)
