@@ -1,0 +1,50 @@
+use borrow.Author.Needs.{needs}
+use Rattle.refusal.specs.Test.{tests}
+use Rattle.line.specs.Cases.{shape-extent}
+use Rattle.line.proofs.request_extent.Statement.{statement}
+use Rattle.line.proofs.request_extent.Tie as tie
+
+returns : tie.Need-returns
+returns c = search (tests, needs)
+
+shared-slice-read-shape-of : tie.Need-shared-slice-read-shape-of
+shared-slice-read-shape-of c = search needs
+
+shape-of-requires : tie.Need-shape-of-requires
+shape-of-requires c κs = search needs
+
+enum-told : tie.Need-enum-told
+enum-told c = search needs
+
+enum-told-2 : tie.Need-enum-told-2
+enum-told-2 c = search needs
+
+enum-told-3 : tie.Need-enum-told-3
+enum-told-3 c = search needs
+
+unicast-extent-requires : tie.Need-unicast-extent-requires
+unicast-extent-requires c κs = search needs
+
+returns-2 : tie.Need-returns-2
+returns-2 c = shape-extent (c .before .before .before .before .before .before .args .s .now) _ _ (c .before .before .before .before .if1 .left) (c .before .before .shape-of .ensures) (rw (c .enum-told .given .1))
+
+returns-3 : tie.Need-returns-3
+returns-3 c = shape-extent (c .before .before .before .before .before .before .args .s .now) _ _ (c .before .before .before .before .if1 .left) (c .before .before .shape-of .ensures) (rw (c .enum-told2 .given .1))
+
+returns-4 : tie.Need-returns-4
+returns-4 c = shape-extent (c .before .before .before .before .before .before .before .args .s .now) _ _ (c .before .before .before .before .before .if1 .left) (c .before .before .before .shape-of .ensures) (rw (c .before .enum-told3 .given .1) (c .unicast-extent .ensures))
+
+pub request-extent-spec : {M : Type 1} → statement M
+request-extent-spec =
+    tie.close
+    (tie.spec
+    returns
+    shared-slice-read-shape-of
+    shape-of-requires
+    enum-told
+    enum-told-2
+    enum-told-3
+    unicast-extent-requires
+    returns-2
+    returns-3
+    returns-4)

@@ -1,0 +1,9 @@
+pub mod Line
+pub mod Rule
+pub mod Extents
+pub mod Cases
+pub mod Laws
+pub mod Numbers
+pub mod Frames
+pub mod Finds
+pub mod Worked

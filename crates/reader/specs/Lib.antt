@@ -1,0 +1,9 @@
+pub mod Reader
+pub mod Arrays
+pub mod Claims
+pub mod Window
+pub mod Calls
+pub mod Run
+pub mod Answers
+pub mod Demand3
+pub mod Promises
