@@ -15,6 +15,9 @@ use Rattle.request.specs.Meaning.{meaningOf}
 use Rattle.request.specs.Reading.{readBasic, readUnicast, readRequest}
 use Rattle.reply.specs.declared.Reply.{Reply}
 use Rattle.reply.specs.Reading.{readReply, dataOf}
+use Rattle.stream.specs.Stream.{Item, reading, itemsUpTo, items}
+use Rattle.line.specs.declared.Line.the-variants.{Reply as OnReply}
+use Rattle.line.specs.Rule.{settle}
 use Rattle.maps.specs.Bit.{bit, howMany, lowest}
 use Rattle.maps.specs.Maps.{gearOf, scenesOf, countOf, lowestOf}
 
@@ -29,6 +32,7 @@ pub data Case : Type 0 where
   gear-present : ℕ → ℕ → Case
   lowest-gear : ℕ → Answer ℕ → Case
   scenes : List ℕ → Answer ℕ → Case
+  reply-line : List ℕ → List Item → Case
 
 -- what it claims
 abbrev pub Holds : Case → Type 0
@@ -41,6 +45,7 @@ Holds (gear s a) = gearOf s ≡ a
 Holds (gear-present g n) = countOf 64 g ≡ n
 Holds (lowest-gear g a) = lowestOf 64 g ≡ a
 Holds (scenes s a) = scenesOf s ≡ a
+Holds (reply-line s is) = items (settle OnReply) s ≡ is
 
 abbrev pub AllHold : List Case → Type 0
 AllHold [] = Unit {0}
@@ -82,10 +87,21 @@ cases =
     ∷ lowest-gear 1023 (full 0)
     -- scene 2 only
     ∷ scenes (0x00 ∷ 0x04 ∷ []) (full 4)
+    -- the program's input
+    ∷ reply-line (0xA0 ∷ 0x00 ∷ 0x00 ∷ 0xA0 ∷ 0xFF ∷ 0xA0 ∷ 0x05 ∷ 0x00 ∷ 0xA4 ∷ 0xA0 ∷ 0x00 ∷ [])
+    (reading 0 (0xA0 ∷ 0x00 ∷ 0x00 ∷ 0xA0 ∷ [])
+    ∷ reading 2 (0xFF ∷ [])
+    ∷ reading 6 (0xA0 ∷ [])
+    ∷ reading 2 (0x05 ∷ [])
+    ∷ reading 2 (0x00 ∷ [])
+    ∷ reading 2 (0xA4 ∷ [])
+    ∷ reading 1 (0xA0 ∷ [])
+    ∷ reading 2 (0x00 ∷ [])
+    ∷ [])
     ∷ []
 
 -- THE CLAIM
 pub bench : AllHold cases
-unfolding sumFrom numberOf shapeOf fits meaningOf readBasic readUnicast readRequest readReply bit howMany lowest
+unfolding sumFrom numberOf shapeOf fits meaningOf readBasic readUnicast readRequest readReply bit howMany lowest settle itemsUpTo
 bench =
-    (refl, (refl, (refl, (refl, (refl, (refl, (refl, (refl, (refl, (refl, (refl, (refl, (refl, (refl, (refl, (refl, (refl, (refl, (refl, tt)))))))))))))))))))
+    (refl, (refl, (refl, (refl, (refl, (refl, (refl, (refl, (refl, (refl, (refl, (refl, (refl, (refl, (refl, (refl, (refl, (refl, (refl, (refl, tt))))))))))))))))))))
