@@ -3,12 +3,13 @@
 // 0 stands for none; the fields of a refused datagram are all 0. include/wickanchor.h declares them for C.
 ghost use mathlib.Core.Path.{_≡_};
 ghost use Rattle.refusal.specs.Answer.{full};
+ghost use Rattle.frame.specs.Written.{said};
 ghost use Rattle.request.specs.Reading.{readRequest};
 ghost use Rattle.request.specs.Writing.{basicFrame};
 ghost use Rattle.reply.specs.Reading.{readReply};
 ghost use Rattle.reply.specs.Writing.{replyFrame};
 ghost use Rattle.event.specs.Reading.{readEvent};
-ghost use Rattle.wickanchor.specs.Outside.{requestOut, replyOut, eventOut, WrittenOut};
+ghost use Rattle.wickanchor.specs.Outside.{requestOut, replyOut, instanceNo, instanceIs, eventOut, wroteOut, WrittenOut};
 use event::Event;
 use event::Instance;
 use frame::Wrote;
@@ -149,42 +150,44 @@ pub extern "C" fn wick_reply(s: &[u8]) -> WickReply
     }
 }
 
+// An instance as a number, 0 where there is none; and whether there is one.
+fn instance_no(i: Instance) -> u8
+    ensures { λ r. ⌜ r ≡ instanceNo i ⌝ }
+{
+    match i {
+        Instance::Number(n) => n,
+        Instance::Absent => 0,
+    }
+}
+
+fn instance_is(i: Instance) -> u8
+    ensures { λ r. ⌜ r ≡ instanceIs i ⌝ }
+{
+    match i {
+        Instance::Number(_) => 1,
+        Instance::Absent => 0,
+    }
+}
+
 fn event_out(e: Event) -> WickEvent
     ensures { λ w. ⌜ w ≡ eventOut (full e) ⌝ }
 {
     let m = e.mac;
     let t = e.kind;
-    let kind = t.number();
     let i = e.instance;
-    match i {
-        Instance::Number(instance) => WickEvent {
-            refusal: 0,
-            kind,
-            instance,
-            has_instance: 1,
-            mac0: m.0,
-            mac1: m.1,
-            mac2: m.2,
-            mac3: m.3,
-            mac4: m.4,
-            mac5: m.5,
-            target: e.target,
-            n: e.n as u64,
-        },
-        Instance::Absent => WickEvent {
-            refusal: 0,
-            kind,
-            instance: 0,
-            has_instance: 0,
-            mac0: m.0,
-            mac1: m.1,
-            mac2: m.2,
-            mac3: m.3,
-            mac4: m.4,
-            mac5: m.5,
-            target: e.target,
-            n: e.n as u64,
-        },
+    WickEvent {
+        refusal: 0,
+        kind: t.number(),
+        instance: instance_no(i),
+        has_instance: instance_is(i),
+        mac0: m.0,
+        mac1: m.1,
+        mac2: m.2,
+        mac3: m.3,
+        mac4: m.4,
+        mac5: m.5,
+        target: e.target,
+        n: e.n as u64,
     }
 }
 
@@ -213,6 +216,21 @@ pub extern "C" fn wick_event(s: &[u8]) -> WickEvent
     }
 }
 
+fn wrote_out(w: Wrote) -> WickWrote
+    ensures { λ r. ⌜ r ≡ wroteOut (said w) ⌝ }
+{
+    match w {
+        Wrote::Count(n) => WickWrote {
+            refusal: 0,
+            count: n as u64,
+        },
+        Wrote::Refused(k) => WickWrote {
+            refusal: k,
+            count: 0,
+        },
+    }
+}
+
 // Writes a basic request.
 #[no_mangle]
 pub extern "C" fn wick_write_basic(
@@ -226,17 +244,7 @@ pub extern "C" fn wick_write_basic(
 ) -> WickWrote
     ensures { λ w. ⌜ WrittenOut (basicFrame sequence command (record { a = a; b = b; c = c; d = d })) (now (out .entry)) w (now (out .exit)) ⌝ }
 {
-    let w = request::write_basic(sequence, command, Arguments { a, b, c, d }, out);
-    match w {
-        Wrote::Count(n) => WickWrote {
-            refusal: 0,
-            count: n as u64,
-        },
-        Wrote::Refused(k) => WickWrote {
-            refusal: k,
-            count: 0,
-        },
-    }
+    wrote_out(request::write_basic(sequence, command, Arguments { a, b, c, d }, out))
 }
 
 // Writes a reply.
@@ -244,15 +252,5 @@ pub extern "C" fn wick_write_basic(
 pub extern "C" fn wick_write_reply(kind: u8, sequence: u8, data: &[u8], out: &mut [u8]) -> WickWrote
     ensures { λ w. ⌜ WrittenOut (replyFrame kind sequence (now («data» .entry))) (now (out .entry)) w (now (out .exit)) ⌝ }
 {
-    let w = reply::write(kind, sequence, data, out);
-    match w {
-        Wrote::Count(n) => WickWrote {
-            refusal: 0,
-            count: n as u64,
-        },
-        Wrote::Refused(k) => WickWrote {
-            refusal: k,
-            count: 0,
-        },
-    }
+    wrote_out(reply::write(kind, sequence, data, out))
 }
