@@ -20,7 +20,7 @@ use Rattle.line.specs.Line.{isLead, shapeExtent, requestExtent, extentOf
 use Rattle.line.specs.Rule.{framed, told, settle}
 use Rattle.line.specs.Extents.{up-to}
 
--- the length of a request by its command's shape, and the step at a lead by the length told
+-- the length of a request, by its command's shape
 pub shape-extent : (s : List ℕ) (x : Shape) (r : Extent) → 3 ≤ length s → x ≡ shapeOf (byte 2 s) → r ≡ shapeExtent x s → r ≡ requestExtent s
 shape-extent s x r h e q = q ∙ rw e (sym (up-to 3 s h))
 
@@ -33,13 +33,14 @@ pub settle-lead : (on : Line) (s : List ℕ) → 1 ≤ length s → isLead on (b
 unfolding settle
 settle-lead on s h e = simp (le-leb 1 (length s) h, e)
 
--- a whole frame
-abbrev pub judged : Line → ℕ → List ℕ → Step
-judged on n f = pick (eqb (sumOf f) 0) (pick (inTable on f) (Item 0 n n) (Item 7 n n)) (Item 6 1 n)
-
+-- a lead, by the length that the bytes tell
 pub extent-step : (on : Line) (s : List ℕ) (x : Extent) (r : Step) → 1 ≤ length s → isLead on (byte 0 s) ≡ true → x ≡ extentOf on s
     → r ≡ told on x s → r ≡ settle on s
 extent-step on s x r h l e q = q ∙ rw e (sym (settle-lead on s h l))
+
+-- a whole frame
+abbrev pub judged : Line → ℕ → List ℕ → Step
+judged on n f = pick (eqb (sumOf f) 0) (pick (inTable on f) (Item 0 n n) (Item 7 n n)) (Item 6 1 n)
 
 pub framed-there : (on : Line) (n : ℕ) (s : List ℕ) → n ≤ length s → framed on n s ≡ judged on n (take n s)
 framed-there on n s h = simp (le-leb n (length s) h)
