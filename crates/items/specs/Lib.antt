@@ -1,0 +1,6 @@
+pub mod Text
+pub mod Over
+pub mod Pour
+pub mod Ready
+pub mod Pouring
+pub mod Keep
