@@ -1,5 +1,5 @@
 -- Document 01, "Requests and their argument ranges": the known command numbers, and "each other number is unknown".
-use Prim.Native.Nat.{ℕ, _≤_, _<_}
+use Prim.Native.Nat.{ℕ, zero, suc, _+_, _≤_, _<_}
 use mathlib.Core.Path.{_≡_, refl}
 use mathlib.Core.Bool.{Bool, true, false}
 use mathlib.Core.List.{List, [], _∷_}
@@ -60,6 +60,15 @@ named Unicast = true
 
 abbrev pub isKnown : ℕ → Bool
 isKnown c = named (shapeOf c)
+
+-- "With 40 these are 32 commands; each other number is unknown."
+unfoldable pub knownBelow : ℕ → ℕ
+knownBelow zero = 0
+knownBelow (suc n) = pick (isKnown n) 1 0 + knownBelow n
+
+pub known-count : knownBelow 256 ≡ 32
+unfolding shapeOf knownBelow
+known-count = refl
 
 -- what every line of a table says of its numbers, the table says of each number
 abbrev AllRows : (ℕ → Shape → Type 0) → List Row → Type 0
