@@ -17,6 +17,10 @@ pub record Keeps (buf : List ℕ) (from end r : ℕ) (buf′ : List ℕ) : Type 
   pub says : r ≡ length (unread buf from end)
   pub leaves : buf′ ≡ unread buf from end ++ drop (length (unread buf from end)) buf
 
+-- it leaves no choice
+pub keeps-one : {buf a b : List ℕ} {from end r q : ℕ} → Keeps buf from end r a → Keeps buf from end q b → (r ≡ q) × (a ≡ b)
+keeps-one x y = (x .says ∙ sym (y .says), x .leaves ∙ sym (y .leaves))
+
 -- so they are what then stands in front
 pub kept : {buf : List ℕ} {from end r : ℕ} {buf′ : List ℕ} → Keeps buf from end r buf′ → take r buf′ ≡ unread buf from end
 kept {buf} {from} {end} k = rw (k .says, k .leaves) (take-append-seam (unread buf from end) (drop (length (unread buf from end)) buf))
@@ -34,11 +38,11 @@ module _ (buf : List ℕ) (from end : ℕ) where
       let l : length (take i u) ≡ i = length-take-le i u (omega arith) in
       let place : from + i ≡ length (take i u) + from = omega arith in
       let there : getD b (from + i) 0 ≡ getD buf (from + i) 0 =
-      ap (λ (x : List ℕ). getD x (from + i) 0) e
-      ∙ ap (λ (j : ℕ). getD (take i u ++ drop i buf) j 0) place
-      ∙ getD-append-add (take i u) (drop i buf) from 0
-      ∙ getD-drop i buf from 0
-      ∙ rw (add-comm i from) in
+          ap (λ (x : List ℕ). getD x (from + i) 0) e
+          ∙ ap (λ (j : ℕ). getD (take i u ++ drop i buf) j 0) place
+          ∙ getD-append-add (take i u) (drop i buf) from 0
+          ∙ getD-drop i buf from 0
+          ∙ rw (add-comm i from) in
       let same : getD u i 0 ≡ getD buf (from + i) 0 = getD-drop from (take end buf) i 0 ∙ getD-take end buf (from + i) 0 (omega arith) in
       rw (add-one, take-suc u i 0 h, there, same, e, drop-cons buf i 0 (omega arith), set-at (take i u) (getD buf i 0) (drop (suc i) buf) (getD buf (from + i) 0) i l)
       (sym (append-snoc (take i u) (getD buf (from + i) 0) (drop (suc i) buf)))

@@ -3,4 +3,8 @@ pub mod Over
 pub mod Pour
 pub mod Ready
 pub mod Pouring
+pub mod Poured
+pub mod Room
+pub mod Run
 pub mod Keep
+pub mod Worked

@@ -1,6 +1,6 @@
 -- What is poured of the bytes at hand: the items that are ready, as far as their lines find room.
 use Prim.Native.Nat.{ℕ, zero, suc, _+_, _-_}
-use mathlib.Core.Path.{_≡_}
+use mathlib.Core.Path.{_≡_, sym, _∙_}
 use mathlib.Core.Bool.{Bool, true, false}
 use mathlib.Core.List.{List, [], _∷_, _++_}
 use lib.ListN.{length, take, drop}
@@ -45,3 +45,10 @@ pub record Pours (p : List Item) (start : ℕ) (out : List ℕ) (r : Poured) (ou
   pub read : r .read ≡ start + countsOf p
   pub wrote : r .wrote ≡ length (textOf p)
   pub leaves : out′ ≡ textOf p ++ drop (length (textOf p)) out
+
+-- it leaves no choice
+pub pours-one : {p : List Item} {start : ℕ} {out a b : List ℕ} {r q : Poured} → Pours p start out r a → Pours p start out q b → (r ≡ q) × (a ≡ b)
+pours-one {p} {start} {out} {a} {b} {r} {q} x y =
+    let e : r .read ≡ q .read = x .read ∙ sym (y .read) in
+    let f : r .wrote ≡ q .wrote = x .wrote ∙ sym (y .wrote) in
+    ((λ i. record { read = e i; wrote = f i }), x .leaves ∙ sym (y .leaves))

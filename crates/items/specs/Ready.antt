@@ -3,7 +3,7 @@
 use Prim.Native.Nat.{ℕ, zero, suc, _+_, _≤_}
 use mathlib.Core.Path.{_≡_, refl, sym, ap, _∙_}
 use mathlib.Core.Bool.{Bool, true, false}
-use mathlib.Core.List.{List, [], _∷_, _++_}
+use mathlib.Core.List.{List, [], _∷_, _++_, append-nil}
 use lib.ListN.{length, take, drop, length-drop, length-take, drop-of-length-le}
 use lib.Seq.{drop-drop, length-take-le}
 use native.Mathlib.Omega.{arith}
@@ -29,9 +29,9 @@ module _ (settle : List ℕ → Step) (law : Lawful settle) where
   enough closed (suc n) (suc m) (b ∷ s) hn hm =
       let x = settle (b ∷ s) in
       let r : readyUpTo settle closed n (drop (sizeOf x) (b ∷ s)) ≡ readyUpTo settle closed m (drop (sizeOf x) (b ∷ s)) =
-      enough closed n m (drop (sizeOf x) (b ∷ s))
-      (simp length-drop (omega (arith, size-some settle law (b ∷ s))))
-      (simp length-drop (omega (arith, size-some settle law (b ∷ s)))) in
+          enough closed n m (drop (sizeOf x) (b ∷ s))
+          (simp length-drop (omega (arith, size-some settle law (b ∷ s))))
+          (simp length-drop (omega (arith, size-some settle law (b ∷ s)))) in
       ap (λ (l : List Item). pick (isReady closed x) (reading (numberOf x) (take (sizeOf x) (b ∷ s)) ∷ l) []) r
 
   -- no bytes, no item
@@ -48,7 +48,7 @@ module _ (settle : List ℕ → Step) (law : Lawful settle) where
       let x = settle (b ∷ s) in
       let d = drop (sizeOf x) (b ∷ s) in
       let r : readyUpTo settle closed (length s) d ≡ ready settle closed d =
-      enough closed (length s) (length d) d (simp length-drop (omega (arith, size-some settle law (b ∷ s)))) (omega arith) in
+          enough closed (length s) (length d) d (simp length-drop (omega (arith, size-some settle law (b ∷ s)))) (omega arith) in
       rw (e, r)
 
   pub ready-next : (closed : Bool) (s : List ℕ) → 1 ≤ length s → isReady closed (settle s) ≡ true
@@ -59,3 +59,21 @@ module _ (settle : List ℕ → Step) (law : Lawful settle) where
   pub ready-waits : (closed : Bool) (s : List ℕ) → isReady closed (settle s) ≡ false → ready settle closed s ≡ []
   ready-waits closed [] e = ready-none closed
   ready-waits closed (b ∷ s) e = ready-front closed false b s e
+
+  -- an item that is ready is the next of the stream: what is settled stays settled, and a closed stream has nothing behind it
+  pub items-ready : (closed : Bool) (s t : List ℕ) → (closed ≡ true → t ≡ []) → 1 ≤ length s → isReady closed (settle s) ≡ true
+      → items settle (s ++ t) ≡ reading (numberOf (settle s)) (take (sizeOf (settle s)) s) ∷ items settle (drop (sizeOf (settle s)) s ++ t)
+  items-ready closed s t last h e = go (settle s) refl
+    where
+      alone : (l : List ℕ) → closed ≡ true → l ++ t ≡ l
+      alone l c = rw (last c) (append-nil l)
+
+      shut : (s : List ℕ) → closed ≡ true → 1 ≤ length s
+          → items settle (s ++ t) ≡ reading (numberOf (settle s)) (take (sizeOf (settle s)) s) ∷ items settle (drop (sizeOf (settle s)) s ++ t)
+      shut [] c h = absurd (omega arith)
+      shut (b ∷ s) c h = ap (items settle) (alone (b ∷ s) c) ∙ items-next settle law b s ∙ behind (ap (items settle) (sym (alone (drop (sizeOf (settle (b ∷ s))) (b ∷ s)) c)))
+
+      go : (x : Step) → settle s ≡ x
+          → items settle (s ++ t) ≡ reading (numberOf (settle s)) (take (sizeOf (settle s)) s) ∷ items settle (drop (sizeOf (settle s)) s ++ t)
+      go More q = shut s (sym (ap (isReady closed) q) ∙ e) h
+      go (Settled k m d) q = items-front settle law s t k m d q ∙ rw q
