@@ -84,7 +84,15 @@ fn reply_line(v: Verb, s: State, g: Groups, bytes: &[u8], out: &mut [u8], at: us
     }
 }
 
-fn line_call(v: Verb, line: Line, s: State, g: Groups, bytes: &[u8], out: &mut [u8], at: usize) -> Turn {
+fn line_call(
+    v: Verb,
+    line: Line,
+    s: State,
+    g: Groups,
+    bytes: &[u8],
+    out: &mut [u8],
+    at: usize,
+) -> Turn {
     match line {
         Line::Request => request_line(v, s, g, bytes, out, at),
         Line::Reply => reply_line(v, s, g, bytes, out, at),
@@ -105,19 +113,36 @@ fn plain(call: Call, g: Groups, bytes: &[u8], lent: &mut [u8], out: &mut [u8], a
     }
 }
 
-fn made(call: Call, s: State, g: Groups, bytes: &[u8], lent: &mut [u8], out: &mut [u8], at: usize) -> Turn {
+fn made(
+    call: Call,
+    s: State,
+    g: Groups,
+    bytes: &[u8],
+    lent: &mut [u8],
+    out: &mut [u8],
+    at: usize,
+) -> Turn {
     match call {
         Call::Page(p) => page(p, s, g, bytes, out, at),
         Call::Line(v, line) => line_call(v, line, s, g, bytes, out, at),
-        Call::Datagram(_) | Call::Write(_) | Call::Piece(_) | Call::Content(_) | Call::Unknown => Turn {
-            state: s,
-            at: plain(call, g, bytes, lent, out, at),
-        },
+        Call::Datagram(_) | Call::Write(_) | Call::Piece(_) | Call::Content(_) | Call::Unknown =>
+            Turn {
+                state: s,
+                at: plain(call, g, bytes, lent, out, at),
+            },
     }
 }
 
 // A line of the protocol's words: its groups are counted and measured before the call is made.
-fn grouped(call: Call, s: State, g: Groups, bytes: &[u8], lent: &mut [u8], out: &mut [u8], at: usize) -> Turn {
+fn grouped(
+    call: Call,
+    s: State,
+    g: Groups,
+    bytes: &[u8],
+    lent: &mut [u8],
+    out: &mut [u8],
+    at: usize,
+) -> Turn {
     let rule = calls::rule_of(call);
     if !calls::counts(rule, g) {
         return Turn {
@@ -134,7 +159,16 @@ fn grouped(call: Call, s: State, g: Groups, bytes: &[u8], lent: &mut [u8], out: 
     made(call, s, g, bytes, lent, out, at)
 }
 
-fn known(call: Call, s: State, line: &[u8], from: usize, bytes: &mut [u8], lent: &mut [u8], out: &mut [u8], at: usize) -> Turn {
+fn known(
+    call: Call,
+    s: State,
+    line: &[u8],
+    from: usize,
+    bytes: &mut [u8],
+    lent: &mut [u8],
+    out: &mut [u8],
+    at: usize,
+) -> Turn {
     let p = words::parse(line, from, bytes);
     match p {
         Parsed::Groups(g) => grouped(call, s, g, bytes, lent, out, at),
@@ -146,7 +180,14 @@ fn known(call: Call, s: State, line: &[u8], from: usize, bytes: &mut [u8], lent:
 }
 
 // The answer to a line with a word in it, and the line feed behind it.
-pub fn answer(s: State, line: &[u8], bytes: &mut [u8], lent: &mut [u8], out: &mut [u8], at: usize) -> Turn {
+pub fn answer(
+    s: State,
+    line: &[u8],
+    bytes: &mut [u8],
+    lent: &mut [u8],
+    out: &mut [u8],
+    at: usize,
+) -> Turn {
     let a = words::name_start(line);
     let e = words::name_end(line, a);
     let call = calls::named(words::part(line, a, e));
@@ -155,8 +196,11 @@ pub fn answer(s: State, line: &[u8], bytes: &mut [u8], lent: &mut [u8], out: &mu
             state: s,
             at: text::word(out, at, b"? no such call"),
         },
-        Call::Datagram(_) | Call::Write(_) | Call::Piece(_) | Call::Content(_) | Call::Page(_) | Call::Line(_, _) => {
-            known(call, s, line, e, bytes, lent, out, at)
-        }
+        Call::Datagram(_)
+        | Call::Write(_)
+        | Call::Piece(_)
+        | Call::Content(_)
+        | Call::Page(_)
+        | Call::Line(_, _) => { known(call, s, line, e, bytes, lent, out, at) }
     }
 }

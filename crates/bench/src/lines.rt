@@ -89,7 +89,15 @@ fn settle(line: Line, s: &[u8], out: &mut [u8], at: usize) -> usize {
     }
 }
 
-pub fn answer(v: Verb, line: Line, h: Held, g: Groups, bytes: &[u8], out: &mut [u8], at: usize) -> Turn {
+pub fn answer(
+    v: Verb,
+    line: Line,
+    h: Held,
+    g: Groups,
+    bytes: &[u8],
+    out: &mut [u8],
+    at: usize,
+) -> Turn {
     let s = words::part(bytes, 0, g.a);
     match v {
         Verb::Fresh => Turn {

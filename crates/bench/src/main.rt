@@ -92,7 +92,15 @@ fn begun(r: Run, s: &[u8], line: &mut [u8]) -> Run {
     }
 }
 
-fn answered(state: State, word: bool, line: &[u8], bytes: &mut [u8], lent: &mut [u8], out: &mut [u8], at: usize) -> answers::Turn {
+fn answered(
+    state: State,
+    word: bool,
+    line: &[u8],
+    bytes: &mut [u8],
+    lent: &mut [u8],
+    out: &mut [u8],
+    at: usize,
+) -> answers::Turn {
     if !word {
         return answers::Turn { state, at };
     }
@@ -130,7 +138,15 @@ fn ended(r: Run, line: &[u8], bytes: &mut [u8], lent: &mut [u8], out: &mut [u8])
 }
 
 // Bytes of a line, with its end or without it.
-fn taken(run: Run, s: &[u8], whole: bool, line: &mut [u8], bytes: &mut [u8], lent: &mut [u8], out: &mut [u8]) -> Run {
+fn taken(
+    run: Run,
+    s: &[u8],
+    whole: bool,
+    line: &mut [u8],
+    bytes: &mut [u8],
+    lent: &mut [u8],
+    out: &mut [u8],
+) -> Run {
     let r = begun(run, s, line);
     if whole {
         return ended(r, line, bytes, lent, out);
@@ -139,7 +155,14 @@ fn taken(run: Run, s: &[u8], whole: bool, line: &mut [u8], bytes: &mut [u8], len
 }
 
 // A piece of the input: each line that ends in it is answered, and what is left of it begins the next.
-fn piece(run: Run, s: &[u8], line: &mut [u8], bytes: &mut [u8], lent: &mut [u8], out: &mut [u8]) -> Run {
+fn piece(
+    run: Run,
+    s: &[u8],
+    line: &mut [u8],
+    bytes: &mut [u8],
+    lent: &mut [u8],
+    out: &mut [u8],
+) -> Run {
     let mut r = run;
     let mut i: usize = 0;
     while i < s.len() {
@@ -162,11 +185,21 @@ fn finish(run: Run, line: &[u8], bytes: &mut [u8], lent: &mut [u8], out: &mut [u
 }
 
 // One reading of the input: a piece of it, or its end.
-fn read_once(r: Run, input: &mut [u8], line: &mut [u8], bytes: &mut [u8], lent: &mut [u8], out: &mut [u8]) -> Next {
+fn read_once(
+    r: Run,
+    input: &mut [u8],
+    line: &mut [u8],
+    bytes: &mut [u8],
+    lent: &mut [u8],
+    out: &mut [u8],
+) -> Next {
     let got = libc::read(STDIN_FILENO, input);
     if got <= 0 {
         finish(r, line, bytes, lent, out);
-        return Next { run: r, more: false };
+        return Next {
+            run: r,
+            more: false,
+        };
     }
     let n = io::count(got, input);
     Next {

@@ -78,18 +78,41 @@ fn copy(s: &[u8], lent: &mut [u8]) -> usize
     i
 }
 
-fn shown(w: Writer, head: &[u8], data: &[u8], before: &[u8], buffer: &mut [u8], out: &mut [u8], at: usize) -> usize {
+fn shown(
+    w: Writer,
+    head: &[u8],
+    data: &[u8],
+    before: &[u8],
+    buffer: &mut [u8],
+    out: &mut [u8],
+    at: usize,
+) -> usize {
     let wrote = write(w, head, data, buffer);
     say::wrote(out, at, wrote, before, buffer)
 }
 
-fn lend(w: Writer, head: &[u8], data: &[u8], before: &[u8], lent: &mut [u8], out: &mut [u8], at: usize) -> usize {
+fn lend(
+    w: Writer,
+    head: &[u8],
+    data: &[u8],
+    before: &[u8],
+    lent: &mut [u8],
+    out: &mut [u8],
+    at: usize,
+) -> usize {
     let n = copy(before, lent);
     shown(w, head, data, before, &mut lent[..n], out, at)
 }
 
 // The buffer is the last group of two or three, the data the second of three.
-pub fn answer(w: Writer, g: Groups, bytes: &[u8], lent: &mut [u8], out: &mut [u8], at: usize) -> usize {
+pub fn answer(
+    w: Writer,
+    g: Groups,
+    bytes: &[u8],
+    lent: &mut [u8],
+    out: &mut [u8],
+    at: usize,
+) -> usize {
     let head = words::part(bytes, 0, g.a);
     if g.count == 2 {
         return lend(w, head, b"", words::part(bytes, g.a, g.b), lent, out, at);

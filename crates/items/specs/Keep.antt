@@ -38,11 +38,11 @@ module _ (buf : List ℕ) (from end : ℕ) where
       let l : length (take i u) ≡ i = length-take-le i u (omega arith) in
       let place : from + i ≡ length (take i u) + from = omega arith in
       let there : getD b (from + i) 0 ≡ getD buf (from + i) 0 =
-          ap (λ (x : List ℕ). getD x (from + i) 0) e
-          ∙ ap (λ (j : ℕ). getD (take i u ++ drop i buf) j 0) place
-          ∙ getD-append-add (take i u) (drop i buf) from 0
-          ∙ getD-drop i buf from 0
-          ∙ rw (add-comm i from) in
+      ap (λ (x : List ℕ). getD x (from + i) 0) e
+      ∙ ap (λ (j : ℕ). getD (take i u ++ drop i buf) j 0) place
+      ∙ getD-append-add (take i u) (drop i buf) from 0
+      ∙ getD-drop i buf from 0
+      ∙ rw (add-comm i from) in
       let same : getD u i 0 ≡ getD buf (from + i) 0 = getD-drop from (take end buf) i 0 ∙ getD-take end buf (from + i) 0 (omega arith) in
       rw (add-one, take-suc u i 0 h, there, same, e, drop-cons buf i 0 (omega arith), set-at (take i u) (getD buf i 0) (drop (suc i) buf) (getD buf (from + i) 0) i l)
       (sym (append-snoc (take i u) (getD buf (from + i) 0) (drop (suc i) buf)))

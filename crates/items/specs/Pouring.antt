@@ -131,7 +131,7 @@ module _ {settle : List ℕ → Step} {closed : Bool} {s : List ℕ} {start : �
         let f : w + length t ≤ length out = moved (line-some item) q n in
         let a = puts-room {t = t} {out = out} {at = w} f q in
         let g : fitting (length out₀ - w) (item ∷ ready settle closed (drop (at + m) s)) ≡ item ∷ fitting (length out₀ - w - length t) (ready settle closed (drop (at + m) s)) =
-            fitting-next (length out₀ - w) item _ (omega (arith, pouring-length p)) in
+        fitting-next (length out₀ - w) item _ (omega (arith, pouring-length p)) in
         let d : length out₀ - w - length t ≡ length out₀ - r = omega (arith, a .0) in
         let l : m ≤ length (drop at s) = rw size (size-there settle law (drop at s) (simp length-drop (omega arith))) in
         let b : length (take (at + m - at) (drop at s)) ≡ m = rw part (length-take-le m (drop at s) l) in

@@ -29,9 +29,9 @@ module _ (settle : List ℕ → Step) (law : Lawful settle) where
   enough closed (suc n) (suc m) (b ∷ s) hn hm =
       let x = settle (b ∷ s) in
       let r : readyUpTo settle closed n (drop (sizeOf x) (b ∷ s)) ≡ readyUpTo settle closed m (drop (sizeOf x) (b ∷ s)) =
-          enough closed n m (drop (sizeOf x) (b ∷ s))
-          (simp length-drop (omega (arith, size-some settle law (b ∷ s))))
-          (simp length-drop (omega (arith, size-some settle law (b ∷ s)))) in
+      enough closed n m (drop (sizeOf x) (b ∷ s))
+      (simp length-drop (omega (arith, size-some settle law (b ∷ s))))
+      (simp length-drop (omega (arith, size-some settle law (b ∷ s)))) in
       ap (λ (l : List Item). pick (isReady closed x) (reading (numberOf x) (take (sizeOf x) (b ∷ s)) ∷ l) []) r
 
   -- no bytes, no item
@@ -48,7 +48,7 @@ module _ (settle : List ℕ → Step) (law : Lawful settle) where
       let x = settle (b ∷ s) in
       let d = drop (sizeOf x) (b ∷ s) in
       let r : readyUpTo settle closed (length s) d ≡ ready settle closed d =
-          enough closed (length s) (length d) d (simp length-drop (omega (arith, size-some settle law (b ∷ s)))) (omega arith) in
+      enough closed (length s) (length d) d (simp length-drop (omega (arith, size-some settle law (b ∷ s)))) (omega arith) in
       rw (e, r)
 
   pub ready-next : (closed : Bool) (s : List ℕ) → 1 ≤ length s → isReady closed (settle s) ≡ true
