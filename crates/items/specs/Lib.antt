@@ -5,6 +5,6 @@ pub mod Ready
 pub mod Pouring
 pub mod Poured
 pub mod Room
-pub mod Run
 pub mod Keep
+pub mod Run
 pub mod Worked

@@ -49,6 +49,16 @@ pub fitting-none : (room : ℕ) → fitting room [] ≡ []
 unfolding fitting
 fitting-none room = refl
 
+-- what a pour wrote is in the buffer
+pub wrote-there : {p : List Item} {start : ℕ} {out out′ : List ℕ} {r : Poured} → Pours p start out r out′ → r .wrote ≤ length out′
+wrote-there {p} {start} {out} w = omega (arith, w .wrote, ap length (w .leaves) ∙ length-append (textOf p) (drop (length (textOf p)) out))
+
+-- a pour that wrote nothing poured nothing
+pub wrote-none : (p : List Item) {start : ℕ} {out out′ : List ℕ} {r : Poured} → Pours p start out r out′ → r .wrote ≡ 0 → p ≡ []
+unfolding textOf
+wrote-none [] w e = refl
+wrote-none (i ∷ is) w e = absurd (omega (arith, w .wrote, line-some i, length-append (lineOf i) (textOf is)))
+
 -- an item at the front is there whole
 pub size-there : (settle : List ℕ → Step) (law : Lawful settle) (s : List ℕ) → 1 ≤ length s → sizeOf (settle s) ≤ length s
 size-there settle law s h = go (settle s) refl

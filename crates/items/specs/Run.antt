@@ -4,7 +4,8 @@ use Prim.Native.Nat.{ℕ, zero, suc, _+_, _≤_, _<_}
 use mathlib.Core.Path.{_≡_, refl, sym, ap, _∙_}
 use mathlib.Core.Bool.{Bool, true, false}
 use mathlib.Core.List.{List, [], _∷_, _++_, append-assoc, append-nil}
-use lib.ListN.{length, drop, length-drop}
+use lib.ListN.{length, take, drop, length-drop}
+use native.Mathlib.Nat.{add-zero}
 use native.Mathlib.Omega.{arith}
 use Rattle.stream.specs.declared.Step.{Step}
 use Rattle.stream.specs.declared.Step.the-variants.{More, Item as Settled}
@@ -16,8 +17,10 @@ use Rattle.line.specs.Line.{capOf}
 use Rattle.line.specs.Rule.{settle}
 use Rattle.line.specs.Laws.{lawful, waits-few}
 use Rattle.items.specs.Text.{lineOf, textOf}
-use Rattle.items.specs.Pour.{isReady, ready, poured}
-use Rattle.items.specs.Pouring.{size-there}
+use Rattle.items.specs.declared.Poured.{Poured}
+use Rattle.items.specs.Pour.{isReady, ready, poured, Pours}
+use Rattle.items.specs.Keep.{Keeps}
+use Rattle.items.specs.Pouring.{size-there, wrote-none}
 use Rattle.items.specs.Poured.{rest, rest-next, text-append, always, poured-cases, poured-items, nothing-waits, ready-rest}
 use Rattle.items.specs.Room.{front, longestLine, line-most}
 
@@ -126,6 +129,15 @@ module _ (on : Line) (room : ℕ) (enough : longestLine on ≤ room) where
   -- where it reads more, it holds no more bytes than a reader does
   pub held-few : (h : List ℕ) → poured (settle on) false room h ≡ [] → length h ≤ capOf on
   held-few h e = waits-few on h (none-waits (settle on) (lawful on) room roomy h e)
+
+  -- so where a pour wrote nothing, what is kept of the buffer is no more
+  pub kept-few : (buf out : List ℕ) (at end : ℕ) {r : Poured} {out′ buf′ : List ℕ} {n : ℕ}
+      → Pours (poured (settle on) false room (drop at (take end buf))) at out r out′ → r .wrote ≡ 0 → Keeps buf (r .read) end n buf′ → n ≤ capOf on
+  unfolding countsOf
+  kept-few buf out at end {r} w e k =
+      let z : poured (settle on) false room (drop at (take end buf)) ≡ [] = wrote-none (poured (settle on) false room (drop at (take end buf))) w e in
+      let q : r .read ≡ at = w .read ∙ rw z (add-zero at) in
+      rw (k .says, q) (held-few (drop at (take end buf)) z)
 
 -- and so it is behind any pour that room did not stop
 pub rest-few : (on : Line) (room : ℕ) (s : List ℕ) → poured (settle on) false room s ≡ ready (settle on) false s
