@@ -1,0 +1,47 @@
+"""Makes the three streams of the benchmark in a folder, the same bytes on every run: python3 bench/streams.py FOLDER
+
+clean   replies of 0 to 64 data bytes, each with its sum
+noise   bytes without a rule
+worst   a lead at every other place, each with a length of 64 and a sum that fails, so that the reader sums 68 bytes again and again
+"""
+import pathlib
+import sys
+
+SIZE = 1000000
+
+
+def numbers(seed):
+    """Bytes of a linear congruential generator."""
+    x = seed
+    while True:
+        x = (x * 1103515245 + 12345) & 0x7FFFFFFF
+        yield (x >> 16) & 0xFF
+
+
+def clean():
+    source = numbers(1)
+    stream = bytearray()
+    while len(stream) < SIZE:
+        n = next(source) % 65
+        frame = bytearray([0xA0 + next(source) % 4, next(source), n])
+        frame += bytearray(next(source) for _ in range(n))
+        total = 0
+        for byte in frame:
+            total ^= byte
+        frame.append(total)
+        stream += frame
+    return bytes(stream)
+
+
+def noise():
+    source = numbers(2)
+    return bytes(next(source) for _ in range(SIZE))
+
+
+def worst():
+    return bytes([0xA0, 0xA1, 0x40, 0x40]) * (SIZE // 4)
+
+
+folder = pathlib.Path(sys.argv[1])
+for make in (clean, noise, worst):
+    (folder / make.__name__).write_bytes(make())
