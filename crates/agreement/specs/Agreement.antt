@@ -8,7 +8,7 @@ use lib.Seq.{length-take-le}
 use lib.Dec.{leb, eqb}
 use borrow.Author.Tests.{leb-true, eqb-true, le-leb, eq-eqb}
 use native.Mathlib.Omega.{arith}
-use Rattle.refusal.specs.Test.{pick}
+use Rattle.refusal.specs.Test.{pick, clash}
 use Rattle.refusal.specs.Answer.{Answer, refused, full, demand}
 use Rattle.sum.specs.Sum.{sumOf}
 use Rattle.frame.specs.Frame.{byte}
@@ -69,12 +69,12 @@ reply-framed f w = three (leb 3 (length f)) refl (w .tells)
         let l = le-leb 4 (length f) (omega arith) in
         let m = eq-eqb (length f) (byte 2 f + 4) (sym n) in
         rw (l, w .lead, e, m) (demands-sum (eqb (sumOf f) 0) _)
-    over false e q = absurd (let z : _≡_ {A = ℕ} 0 1 = cc in omega arith)
+    over false e q = clash (cc)
 
     three : (x : Bool) → leb 3 (length f) ≡ x → pick x (pick (leb (byte 2 f) 64) (Frame (byte 2 f + 4)) (Bad 4 3)) Wait ≡ Frame (length f)
         → datagram Reply f ≡ framed (eqb (sumOf f) 0) true
     three true e q = over (leb (byte 2 f) 64) refl q
-    three false e q = absurd (let z : _≡_ {A = ℕ} 0 1 = cc in omega arith)
+    three false e q = clash (cc)
 
 request-framed : (f : List ℕ) → Leads Request f (Frame (length f)) → datagram Request f ≡ framed (eqb (sumOf f) 0) (inTable Request f)
 unfolding readRequest readBasic readUnicast
@@ -89,15 +89,15 @@ request-framed f w = three (leb 3 (length f)) refl (w .tells)
     six true e u q =
         let n : 11 ≡ length f = cc in
         said Unicast u (omega arith) ∙ rw (e, eq-eqb (length f) 11 (sym n), u) (demands-sum (eqb (sumOf f) 0) _)
-    six false e u q = absurd (let z : _≡_ {A = ℕ} 0 1 = cc in omega arith)
+    six false e u q = clash (cc)
 
     four : (x : Bool) → leb 4 (length f) ≡ x → shapeOf (byte 2 f) ≡ Unicast → pick x (pick (eqb (byte 3 f) 6) (Frame 11) (Bad 4 4)) Wait ≡ Frame (length f)
         → datagram Request f ≡ framed (eqb (sumOf f) 0) (inTable Request f)
     four true e u q = six (eqb (byte 3 f) 6) refl u q
-    four false e u q = absurd (let z : _≡_ {A = ℕ} 0 1 = cc in omega arith)
+    four false e u q = clash (cc)
 
     shaped : (x : Shape) → shapeOf (byte 2 f) ≡ x → shapeExtent x f ≡ Frame (length f) → datagram Request f ≡ framed (eqb (sumOf f) 0) (inTable Request f)
-    shaped Unknown e q = absurd (let z : _≡_ {A = ℕ} 0 1 = cc in omega arith)
+    shaped Unknown e q = clash (cc)
     shaped (Basic rule) e q =
         let n : 8 ≡ length f = cc in
         said (Basic rule) e (omega arith) ∙ rw (eq-eqb (length f) 8 (sym n), e) (demands (eqb (sumOf f) 0) (fits rule (byte 3 f) (byte 4 f) (byte 5 f) (byte 6 f)) _)
@@ -105,7 +105,7 @@ request-framed f w = three (leb 3 (length f)) refl (w .tells)
 
     three : (x : Bool) → leb 3 (length f) ≡ x → pick x (shapeExtent (shapeOf (byte 2 f)) f) Wait ≡ Frame (length f) → datagram Request f ≡ framed (eqb (sumOf f) 0) (inTable Request f)
     three true e q = shaped (shapeOf (byte 2 f)) refl q
-    three false e q = absurd (let z : _≡_ {A = ℕ} 0 1 = cc in omega arith)
+    three false e q = clash (cc)
 
 pub frame-verdict : (on : Line) (f : List ℕ) → Leads on f (Frame (length f)) → datagram on f ≡ framed (eqb (sumOf f) 0) (inTable on f)
 frame-verdict Request = request-framed
@@ -121,7 +121,7 @@ record Judged {A : Type 0} (a : Answer A) : Type 0 where
 
 demand-framed : {A : Type 0} {P : Type 0} (t : Bool) (k : ℕ) {x : Answer A} → isFramed (refusedWith k) ≡ false → (t ≡ true → Judged x → P) → Judged (demand t k x) → P
 demand-framed true k n f e = f refl e
-demand-framed false k n f e = absurd (let y = e .yes in let z : _≡_ {A = ℕ} 0 1 = cc in omega arith)
+demand-framed false k n f e = clash (let y = e .yes in cc)
 
 reply-leads : (f : List ℕ) → Judged (readReply f) → Leads Reply f (Frame (length f))
 unfolding readReply
@@ -138,7 +138,7 @@ reply-leads f =
 -- a request, by its command's shape
 shape-leads : (f : List ℕ) (x : Shape) → shapeOf (byte 2 f) ≡ x → 8 ≤ length f → Judged (readShape x f) → extentOf Request f ≡ Frame (length f)
 unfolding readBasic readUnicast
-shape-leads f Unknown u l = λ e. absurd (let y = e .yes in let z : _≡_ {A = ℕ} 0 1 = cc in omega arith)
+shape-leads f Unknown u l = λ e. clash (let y = e .yes in cc)
 shape-leads f (Basic rule) u l =
     demand-framed (eqb (length f) 8) 5 refl
     (λ h₅ e. let n = eqb-true (length f) 8 h₅ in rw (le-leb 3 (length f) (omega arith), u, n))
@@ -173,11 +173,11 @@ both-7 false u n m d e = absurd (let z : _≡_ {A = ℕ} 7 6 = cc in omega arith
 
 back-0 : (t u : Bool) (n : ℕ) → framed t u ≡ accepted → pick t (pick u (Item 0 n n) (Item 7 n n)) (Item 6 1 n) ≡ Item 0 n n
 back-0 true true n e = refl
-back-0 true false n e = absurd (let z : _≡_ {A = ℕ} 0 1 = cc in omega arith)
-back-0 false u n e = absurd (let z : _≡_ {A = ℕ} 0 1 = cc in omega arith)
+back-0 true false n e = clash (cc)
+back-0 false u n e = clash (cc)
 
 back-7 : (t u : Bool) (n : ℕ) → framed t u ≡ refusedWith 7 → pick t (pick u (Item 0 n n) (Item 7 n n)) (Item 6 1 n) ≡ Item 7 n n
-back-7 true true n e = absurd (let z : _≡_ {A = ℕ} 0 1 = cc in omega arith)
+back-7 true true n e = clash (cc)
 back-7 true false n e = refl
 back-7 false u n e = absurd (let z : _≡_ {A = ℕ} 7 6 = cc in omega arith)
 

@@ -109,7 +109,7 @@ fn plain(call: Call, g: Groups, bytes: &[u8], lent: &mut [u8], out: &mut [u8], a
         Call::Content(c) => contents::answer(c, g, bytes, out, at),
         Call::Page(_) => at,
         Call::Line(_, _) => at,
-        Call::Unknown => text::word(out, at, b"? no such call"),
+        Call::Unknown => lent::word(out, at, b"? no such call"),
     }
 }
 
@@ -147,13 +147,13 @@ fn grouped(
     if !calls::counts(rule, g) {
         return Turn {
             state: s,
-            at: text::word(out, at, b"? wrong number of groups"),
+            at: lent::word(out, at, b"? wrong number of groups"),
         };
     }
     if !calls::fits(rule, g) {
         return Turn {
             state: s,
-            at: text::word(out, at, b"? wrong number of bytes"),
+            at: lent::word(out, at, b"? wrong number of bytes"),
         };
     }
     made(call, s, g, bytes, lent, out, at)
@@ -174,7 +174,7 @@ fn known(
         Parsed::Groups(g) => grouped(call, s, g, bytes, lent, out, at),
         Parsed::NotAByte => Turn {
             state: s,
-            at: text::word(out, at, b"? not a byte"),
+            at: lent::word(out, at, b"? not a byte"),
         },
     }
 }
@@ -194,7 +194,7 @@ pub fn answer(
     match call {
         Call::Unknown => Turn {
             state: s,
-            at: text::word(out, at, b"? no such call"),
+            at: lent::word(out, at, b"? no such call"),
         },
         Call::Datagram(_)
         | Call::Write(_)

@@ -58,7 +58,7 @@ fn filter(out: &mut [u8], at: usize, s: &[u8], i: usize) -> usize {
     let found = filters::entry(s, i);
     match found {
         Found::Entry(f) => {
-            let e = text::byte(out, at, b'0');
+            let e = lent::byte(out, at, b'0');
             datagrams::filter(out, e, f.address, f.instance, f.mask)
         }
         Found::Refused(k) => say::refusal(out, at, k),

@@ -42,7 +42,7 @@ fn query(out: &mut [u8], at: usize, address: u8, start: u8, instance: u8) -> usi
 // What the arguments of a basic request mean.
 fn meaning(out: &mut [u8], at: usize, m: Meaning) -> usize {
     match m {
-        Meaning::Nothing => text::word(out, at, b" nothing"),
+        Meaning::Nothing => lent::word(out, at, b" nothing"),
         Meaning::Group(g) => say::small(out, at, b" group ", g.0),
         Meaning::Emit(a) => say::small(out, at, b" emit ", a),
         Meaning::Timers { device, instance } => timers(out, at, device.0, instance),
@@ -133,7 +133,7 @@ fn error_code(out: &mut [u8], at: usize, s: &[u8]) -> usize {
             say::small(out, e, b" name ", name)
         }
         Code::Number(code) => say::byte(out, at, b"0 code ", code),
-        Code::Absent => text::word(out, at, b"0 absent"),
+        Code::Absent => lent::word(out, at, b"0 absent"),
         Code::Refused(k) => say::refusal(out, at, k),
     }
 }
@@ -141,7 +141,7 @@ fn error_code(out: &mut [u8], at: usize, s: &[u8]) -> usize {
 fn instance(out: &mut [u8], at: usize, i: Instance) -> usize {
     match i {
         Instance::Number(n) => say::small(out, at, b" instance ", n),
-        Instance::Absent => text::word(out, at, b" instance absent"),
+        Instance::Absent => lent::word(out, at, b" instance absent"),
     }
 }
 

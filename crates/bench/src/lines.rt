@@ -42,7 +42,7 @@ fn given(out: &mut [u8], at: usize, f: Given, none: &[u8]) -> usize {
     let count = f.count;
     let bytes = f.bytes;
     match got {
-        Got::Nothing => text::word(out, at, none),
+        Got::Nothing => lent::word(out, at, none),
         Got::Item(k) => item(out, at, k, count, bytes),
     }
 }
@@ -59,7 +59,7 @@ fn feed(line: Line, h: Held, part: &[u8], out: &mut [u8], at: usize) -> Turn {
 
 fn close(line: Line, h: Held, out: &mut [u8], at: usize) -> Turn {
     let f = reader::close(line, h);
-    let e = text::byte(out, at, b'0');
+    let e = lent::byte(out, at, b'0');
     let held = f.held;
     Turn {
         held,
@@ -80,9 +80,9 @@ fn show(out: &mut [u8], at: usize, h: Held) -> usize {
 fn settle(line: Line, s: &[u8], out: &mut [u8], at: usize) -> usize {
     let step = line::settled(line, s);
     match step {
-        Step::More => text::word(out, at, b"0 more"),
+        Step::More => lent::word(out, at, b"0 more"),
         Step::Item(k, m, d) => {
-            let e = text::byte(out, at, b'0');
+            let e = lent::byte(out, at, b'0');
             let c = counted(out, e, k, m);
             say::size(out, c, b" by ", d)
         }
@@ -102,11 +102,11 @@ pub fn answer(
     match v {
         Verb::Fresh => Turn {
             held: reader::fresh(),
-            at: text::byte(out, at, b'0'),
+            at: lent::byte(out, at, b'0'),
         },
         Verb::Hold => Turn {
             held: handed(words::wide64(s) as usize, words::part(bytes, g.a, g.b)),
-            at: text::byte(out, at, b'0'),
+            at: lent::byte(out, at, b'0'),
         },
         Verb::Feed => feed(line, h, s, out, at),
         Verb::Close => close(line, h, out, at),

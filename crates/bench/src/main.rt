@@ -107,7 +107,7 @@ fn answered(
     if LONGEST < line.len() {
         return answers::Turn {
             state,
-            at: text::word(out, at, b"? line too long"),
+            at: lent::word(out, at, b"? line too long"),
         };
     }
     answers::answer(state, line, bytes, lent, out, at)
@@ -119,7 +119,7 @@ fn ended(r: Run, line: &[u8], bytes: &mut [u8], lent: &mut [u8], out: &mut [u8])
     let whole = words::part(line, 0, r.len);
     let t = answered(before, r.word, whole, bytes, lent, out, r.at);
     let state = t.state;
-    let at = text::byte(out, t.at, b'\n');
+    let at = lent::byte(out, t.at, b'\n');
     if FULL <= at {
         flush(out, at);
         return Run {

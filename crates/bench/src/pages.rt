@@ -34,7 +34,7 @@ fn entry(out: &mut [u8], at: usize, n: u8, command: u8) -> usize {
 
 fn show(out: &mut [u8], at: usize, b: Book) -> usize {
     let e = say::small(out, at, b"0 last ", b.last);
-    let m = text::word(out, e, b" held");
+    let m = lent::word(out, e, b" held");
     let asked = b.asked;
     entries(out, m, &asked)
 }
@@ -88,11 +88,11 @@ pub fn answer(p: Page, b: Book, g: Groups, bytes: &[u8], out: &mut [u8], at: usi
     match p {
         Page::Fresh => Turn {
             book: book::fresh(),
-            at: text::byte(out, at, b'0'),
+            at: lent::byte(out, at, b'0'),
         },
         Page::Set => Turn {
             book: handed(first, words::part(bytes, g.a, g.b)),
-            at: text::byte(out, at, b'0'),
+            at: lent::byte(out, at, b'0'),
         },
         Page::Ask => ask(b, first, out, at),
         Page::Answer => reply(b, first, out, at),

@@ -19,24 +19,24 @@ pub fn lights(out: &mut [u8], at: usize, l: Lights) -> usize {
     match l {
         Lights::Gear(n) => say::small(out, at, b" gear ", n),
         Lights::Group(g) => say::small(out, at, b" group ", g.0),
-        Lights::Broadcast => text::word(out, at, b" broadcast"),
-        Lights::Nothing => text::word(out, at, b" no target"),
+        Lights::Broadcast => lent::word(out, at, b" broadcast"),
+        Lights::Nothing => lent::word(out, at, b" no target"),
     }
 }
 
 fn type_name(out: &mut [u8], at: usize, t: EventType) -> usize {
     match t {
-        EventType::ButtonPress => text::word(out, at, b" BUTTON_PRESS"),
-        EventType::ButtonHold => text::word(out, at, b" BUTTON_HOLD"),
-        EventType::AbsoluteInput => text::word(out, at, b" ABSOLUTE_INPUT"),
-        EventType::LevelChange => text::word(out, at, b" LEVEL_CHANGE"),
-        EventType::GroupLevelChange => text::word(out, at, b" GROUP_LEVEL_CHANGE"),
-        EventType::SceneChange => text::word(out, at, b" SCENE_CHANGE"),
-        EventType::IsOccupied => text::word(out, at, b" IS_OCCUPIED"),
-        EventType::IsUnoccupied => text::word(out, at, b" IS_UNOCCUPIED"),
-        EventType::ColourChanged => text::word(out, at, b" COLOUR_CHANGED"),
-        EventType::ProfileChanged => text::word(out, at, b" PROFILE_CHANGED"),
-        EventType::Other(_) => text::word(out, at, b" OTHER"),
+        EventType::ButtonPress => lent::word(out, at, b" BUTTON_PRESS"),
+        EventType::ButtonHold => lent::word(out, at, b" BUTTON_HOLD"),
+        EventType::AbsoluteInput => lent::word(out, at, b" ABSOLUTE_INPUT"),
+        EventType::LevelChange => lent::word(out, at, b" LEVEL_CHANGE"),
+        EventType::GroupLevelChange => lent::word(out, at, b" GROUP_LEVEL_CHANGE"),
+        EventType::SceneChange => lent::word(out, at, b" SCENE_CHANGE"),
+        EventType::IsOccupied => lent::word(out, at, b" IS_OCCUPIED"),
+        EventType::IsUnoccupied => lent::word(out, at, b" IS_UNOCCUPIED"),
+        EventType::ColourChanged => lent::word(out, at, b" COLOUR_CHANGED"),
+        EventType::ProfileChanged => lent::word(out, at, b" PROFILE_CHANGED"),
+        EventType::Other(_) => lent::word(out, at, b" OTHER"),
     }
 }
 
@@ -48,38 +48,38 @@ pub fn event_type(out: &mut [u8], at: usize, t: EventType) -> usize {
 
 fn rule(out: &mut [u8], at: usize, r: Rule) -> usize {
     match r {
-        Rule::Group => text::word(out, at, b"0 basic group"),
-        Rule::Emit => text::word(out, at, b"0 basic emit"),
-        Rule::Bare => text::word(out, at, b"0 basic bare"),
-        Rule::Timers => text::word(out, at, b"0 basic timers"),
-        Rule::GroupScene => text::word(out, at, b"0 basic group_scene"),
-        Rule::Channel => text::word(out, at, b"0 basic channel"),
-        Rule::Filter => text::word(out, at, b"0 basic filter"),
-        Rule::Query => text::word(out, at, b"0 basic query"),
-        Rule::Gear => text::word(out, at, b"0 basic gear"),
-        Rule::Inhibit => text::word(out, at, b"0 basic inhibit"),
-        Rule::Scene => text::word(out, at, b"0 basic scene"),
-        Rule::Level => text::word(out, at, b"0 basic level"),
-        Rule::Lights => text::word(out, at, b"0 basic lights"),
-        Rule::Address => text::word(out, at, b"0 basic address"),
-        Rule::Status => text::word(out, at, b"0 basic status"),
+        Rule::Group => lent::word(out, at, b"0 basic group"),
+        Rule::Emit => lent::word(out, at, b"0 basic emit"),
+        Rule::Bare => lent::word(out, at, b"0 basic bare"),
+        Rule::Timers => lent::word(out, at, b"0 basic timers"),
+        Rule::GroupScene => lent::word(out, at, b"0 basic group_scene"),
+        Rule::Channel => lent::word(out, at, b"0 basic channel"),
+        Rule::Filter => lent::word(out, at, b"0 basic filter"),
+        Rule::Query => lent::word(out, at, b"0 basic query"),
+        Rule::Gear => lent::word(out, at, b"0 basic gear"),
+        Rule::Inhibit => lent::word(out, at, b"0 basic inhibit"),
+        Rule::Scene => lent::word(out, at, b"0 basic scene"),
+        Rule::Level => lent::word(out, at, b"0 basic level"),
+        Rule::Lights => lent::word(out, at, b"0 basic lights"),
+        Rule::Address => lent::word(out, at, b"0 basic address"),
+        Rule::Status => lent::word(out, at, b"0 basic status"),
     }
 }
 
 fn shape(out: &mut [u8], at: usize, command: u8) -> usize {
     let s = command::shape_of(command);
     match s {
-        Shape::Unknown => text::word(out, at, b"0 unknown"),
+        Shape::Unknown => lent::word(out, at, b"0 unknown"),
         Shape::Basic(r) => rule(out, at, r),
-        Shape::Unicast => text::word(out, at, b"0 unicast"),
+        Shape::Unicast => lent::word(out, at, b"0 unicast"),
     }
 }
 
 fn known(out: &mut [u8], at: usize, command: u8) -> usize {
     if command::known(command) {
-        text::word(out, at, b"0 known")
+        lent::word(out, at, b"0 known")
     } else {
-        text::word(out, at, b"0 unknown")
+        lent::word(out, at, b"0 unknown")
     }
 }
 
@@ -89,9 +89,9 @@ fn within(out: &mut [u8], at: usize, r: Rule, s: &[u8]) -> usize {
     let c = words::byte_at(s, 3);
     let d = words::byte_at(s, 4);
     if command::fits(r, a, b, c, d) {
-        text::word(out, at, b"0 fits")
+        lent::word(out, at, b"0 fits")
     } else {
-        text::word(out, at, b"0 outside")
+        lent::word(out, at, b"0 outside")
     }
 }
 
@@ -99,8 +99,8 @@ fn fits(out: &mut [u8], at: usize, s: &[u8]) -> usize {
     let shape = command::shape_of(words::byte_at(s, 0));
     match shape {
         Shape::Basic(r) => within(out, at, r, s),
-        Shape::Unknown => text::word(out, at, b"0 no rule"),
-        Shape::Unicast => text::word(out, at, b"0 no rule"),
+        Shape::Unknown => lent::word(out, at, b"0 no rule"),
+        Shape::Unicast => lent::word(out, at, b"0 no rule"),
     }
 }
 
@@ -108,7 +108,7 @@ fn error_name(out: &mut [u8], at: usize, code: u8) -> usize {
     let n = error::name_of(code);
     match n {
         Name::Number(k) => say::small(out, at, b"0 name ", k),
-        Name::Nothing => text::word(out, at, b"0 none"),
+        Name::Nothing => lent::word(out, at, b"0 none"),
     }
 }
 
@@ -137,12 +137,12 @@ fn device_number(out: &mut [u8], at: usize, address: u8) -> usize {
 }
 
 fn lit(out: &mut [u8], at: usize, l: Lights) -> usize {
-    let e = text::byte(out, at, b'0');
+    let e = lent::byte(out, at, b'0');
     lights(out, e, l)
 }
 
 fn named_type(out: &mut [u8], at: usize, number: u8) -> usize {
-    let e = text::byte(out, at, b'0');
+    let e = lent::byte(out, at, b'0');
     event_type(out, e, EventType::of(number))
 }
 

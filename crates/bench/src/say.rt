@@ -4,7 +4,7 @@ use frame::Wrote;
 
 // A field: its name, with its blanks, and a number.
 pub fn field(out: &mut [u8], at: usize, name: &[u8], n: u64) -> usize {
-    let e = text::word(out, at, name);
+    let e = lent::word(out, at, name);
     text::decimal(out, e, n)
 }
 
@@ -26,18 +26,18 @@ pub fn size(out: &mut [u8], at: usize, name: &[u8], n: usize) -> usize {
 
 // A field whose value is a byte.
 pub fn byte(out: &mut [u8], at: usize, name: &[u8], b: u8) -> usize {
-    let e = text::word(out, at, name);
+    let e = lent::word(out, at, name);
     text::hex(out, e, b)
 }
 
 // A field whose value is a run of bytes.
 pub fn run(out: &mut [u8], at: usize, name: &[u8], s: &[u8]) -> usize {
-    let e = text::word(out, at, name);
+    let e = lent::word(out, at, name);
     bytes(out, e, s)
 }
 
 fn blank_hex(out: &mut [u8], at: usize, b: u8) -> usize {
-    let e = text::byte(out, at, b' ');
+    let e = lent::byte(out, at, b' ');
     text::hex(out, e, b)
 }
 

@@ -9,11 +9,12 @@ use lib.ListN.{length, set, replicate}
 use lib.Seq.{getD-set-other}
 use native.Mathlib.Decide.{ℕ-discrete}
 use native.Mathlib.Omega.{arith}
+use Rattle.refusal.specs.Test.{not-both}
 use Rattle.refusal.specs.Answer.{Answer, refused, full}
 use Rattle.command.specs.Command.{isKnown}
 use Rattle.book.specs.declared.Book.{Book}
 use Rattle.book.specs.Book.{nothing, entry, holds, numberFor, noted, commandOf, freed}
-use Rattle.book.specs.Search.{clash, search-here, between, number-full, command-full}
+use Rattle.book.specs.Search.{search-here, between, number-full, command-full}
 use Rattle.book.specs.Run.{Call, ask, reply, answer, after, run, Line, line, history, bookOf, historyOf, Awaited, givenIn}
 use Rattle.book.specs.Sound.{nothing-free, fresh-entry, held-below, run-sound}
 use Rattle.book.specs.Awaited.{free-unawaited}
@@ -47,7 +48,7 @@ module _ (l n : ℕ) (hn : n < 256) (b : Book) (h : List Line) (w : Waits l n b 
   step-reply m (refused k) e = record { latest = w .latest; free = w .free; turn = w .turn }
   step-reply m (full c) e =
       let k = command-full b m c .0 e in
-      let q : n ≡ m → ⊥ = λ q. clash (ap isKnown (ap (entry (b .asked)) q ∙ k .1) ∙ k .0) (w .free) in
+      let q : n ≡ m → ⊥ = λ q. not-both (ap isKnown (ap (entry (b .asked)) q ∙ k .1) ∙ k .0) (w .free) in
       record { latest = w .latest; free = ap isKnown (getD-set-other (b .asked) m n nothing nothing q) ∙ w .free; turn = w .turn }
 
   step : (x : Call) → List·Memᴰ n (givenIn (line x (answer b x) ∷ h)) ⊎ Waits l n (after b x) (line x (answer b x) ∷ h)

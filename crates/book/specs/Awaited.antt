@@ -5,10 +5,11 @@ use mathlib.Core.Path.{_≡_, refl, sym, ap, _∙_}
 use mathlib.Core.Bool.{Bool, true, false}
 use mathlib.Core.List.{List}
 use mathlib.Core.Logic.{_↔_, Iff·rfl, Iff·trans, Iff·and}
+use Rattle.refusal.specs.Test.{not-both}
 use Rattle.refusal.specs.Answer.{refused, full}
 use Rattle.command.specs.Command.{isKnown}
 use Rattle.book.specs.Book.{entry, holds}
-use Rattle.book.specs.Search.{clash, number-full, number-nine, command-full, command-ten}
+use Rattle.book.specs.Search.{number-full, number-nine, command-full, command-ten}
 use Rattle.book.specs.Run.{Call, ask, reply, answer, bookOf, historyOf, Awaited}
 use Rattle.book.specs.Sound.{run-sound}
 use Rattle.book.specs.Kept.{kept}
@@ -34,7 +35,7 @@ module _ (past : List Call) where
 
   -- a number is free in the book exactly if it is not awaited
   pub free-unawaited : (n : ℕ) → (holds (bookOf past .asked) n ≡ false) ↔ ((c : ℕ) → Awaited n c (historyOf past) → ⊥)
-  free-unawaited n = ((λ f c w. clash (awaited-held n c w) f), go (holds (bookOf past .asked) n) refl)
+  free-unawaited n = ((λ f c w. not-both (awaited-held n c w) f), go (holds (bookOf past .asked) n) refl)
     where
       go : (t : Bool) → holds (bookOf past .asked) n ≡ t → ((c : ℕ) → Awaited n c (historyOf past) → ⊥) → t ≡ false
       go true e h =

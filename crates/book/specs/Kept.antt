@@ -9,11 +9,12 @@ use lib.Seq.{getD-set-same, getD-set-other}
 use native.Mathlib.Decide.{ℕ-discrete}
 use native.Mathlib.Omega.{arith}
 use borrow.Author.Tests.{eqb-false, ne-eqb}
+use Rattle.refusal.specs.Test.{clash, not-both}
 use Rattle.refusal.specs.Answer.{Answer, refused, full}
 use Rattle.command.specs.Command.{isKnown}
 use Rattle.book.specs.declared.Book.{Book}
 use Rattle.book.specs.Book.{nothing, entry, numberFor, noted, commandOf, freed}
-use Rattle.book.specs.Search.{clash, Found, number-full, command-full}
+use Rattle.book.specs.Search.{Found, number-full, command-full}
 use Rattle.book.specs.Run.{Call, ask, reply, answer, after, run, Line, line, history, bookOf, historyOf, answers, Awaited}
 use Rattle.book.specs.Sound.{Sound, nothing-free, held-below, fresh-entry, run-sound}
 
@@ -36,7 +37,7 @@ module _ (b : Book) (s : Sound b) (n c : ℕ) where
   step-refused x k e = ((λ h. inr (e, h)), back)
     where
       back : Step b n c (line x (refused k)) → Held b n c
-      back (inl q) = absurd (let z : _≡_ {A = ℕ} 0 1 = cc in omega arith)
+      back (inl q) = clash (cc)
       back (inr h) = h .1
 
   step-ask : (d : ℕ) (v : Answer ℕ) → numberFor b d ≡ v → Held (noted b d v) n c ↔ Step b n c (line (ask d) v)
@@ -47,7 +48,7 @@ module _ (b : Book) (s : Sound b) (n c : ℕ) where
       found = number-full b d (s .latest) m e
 
       other : Held b n c → n ≡ m → ⊥
-      other h q = clash (h .0) (ap isKnown (sym (h .1) ∙ ap (entry (b .asked)) q) ∙ found .1 .free)
+      other h q = not-both (h .0) (ap isKnown (sym (h .1) ∙ ap (entry (b .asked)) q) ∙ found .1 .free)
 
       to : Held (noted b d (full m)) n c → Step b n c (line (ask d) (full m))
       to h =
@@ -71,11 +72,11 @@ module _ (b : Book) (s : Sound b) (n c : ℕ) where
 
       to : Held (freed b m (full d)) n c → Step b n c (line (reply m) (full d))
       to h =
-          let other : n ≡ m → ⊥ = λ q. clash (h .0) (ap isKnown (sym (h .1) ∙ here m nothing below q) ∙ nothing-free) in
+          let other : n ≡ m → ⊥ = λ q. not-both (h .0) (ap isKnown (sym (h .1) ∙ here m nothing below q) ∙ nothing-free) in
           inr (ne-eqb m n (λ q. other (sym q)), (h .0, sym (elsewhere m nothing other) ∙ h .1))
 
       from : Step b n c (line (reply m) (full d)) → Held (freed b m (full d)) n c
-      from (inl q) = absurd (let z : _≡_ {A = ℕ} 0 1 = cc in omega arith)
+      from (inl q) = clash (cc)
       from (inr h) = (h .1 .0, elsewhere m nothing (λ q. eqb-false m n (h .0) (sym q)) ∙ h .1 .1)
 
   step : (x : Call) → Held (after b x) n c ↔ Step b n c (line x (answer b x))
@@ -95,5 +96,5 @@ chain {H} {P} {Q} {A} {B} f g = ((λ h. on (f .0 h)), λ w. f .1 (back w))
 
 pub kept : (past : List Call) (n c : ℕ) → Held (bookOf past) n c ↔ Awaited n c (historyOf past)
 unfolding run history
-kept [] n c = ((λ h. clash (h .0) (ap isKnown (sym (h .1) ∙ fresh-entry 256 n) ∙ nothing-free)), λ h. absurd h)
+kept [] n c = ((λ h. not-both (h .0) (ap isKnown (sym (h .1) ∙ fresh-entry 256 n) ∙ nothing-free)), λ h. absurd h)
 kept (x ∷ past) n c = chain (step (bookOf past) (run-sound past) n c x) (kept past n c)

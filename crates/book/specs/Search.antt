@@ -7,14 +7,11 @@ use mathlib.Core.Logic.{_↔_}
 use native.Mathlib.Decide.{ℕ-discrete}
 use native.Mathlib.Omega.{arith}
 use borrow.Author.Tests.{not-true, not-false}
-use Rattle.refusal.specs.Test.{pick, pick-elim}
+use Rattle.refusal.specs.Test.{pick, pick-elim, clash, not-both}
 use Rattle.refusal.specs.Answer.{refused, full, demand, demand-elim, full-one}
 use Rattle.command.specs.Command.{isKnown}
 use Rattle.book.specs.declared.Book.{Book}
 use Rattle.book.specs.Book.{next, entry, holds, firstFree, numberFor, commandOf}
-
-pub clash : {t : Bool} → t ≡ true → t ≡ false → ⊥
-clash e f = let z : _≡_ {A = ℕ} 0 1 = cc in omega arith
 
 -- a turn: m is the number after n, and t says whether something is held under it, as the code finds it
 module _ (asked : List ℕ) (n k m : ℕ) (t : Bool) (left : 0 < k) (em : m ≡ next n) (et : t ≡ holds asked m) where
@@ -45,7 +42,7 @@ pub record Found (asked : List ℕ) (n m : ℕ) : Type 0 where
 
 pub search-found : (asked : List ℕ) (n k m : ℕ) → n < 256 → firstFree asked n k ≡ full m → Found asked n m
 unfolding firstFree
-search-found asked n zero m hn e = absurd (let z : _≡_ {A = ℕ} 0 1 = cc in omega arith)
+search-found asked n zero m hn e = clash (cc)
 search-found asked n (suc k) m hn e =
     pick-elim (holds asked (next n)) (λ u f. later u (search-found asked (next n) k m (omega arith) f)) (λ u f. here u (full-one f)) e
   where
@@ -54,7 +51,7 @@ search-found asked n (suc k) m hn e =
 
     later : holds asked (next n) ≡ true → Found asked (next n) m → Found asked n m
     later u f =
-        let other : (t : ℕ) → holds asked t ≡ false → t ≡ next n → ⊥ = λ t v q. clash u (rw q at v) in
+        let other : (t : ℕ) → holds asked t ≡ false → t ≡ next n → ⊥ = λ t v q. not-both u (rw q at v) in
         record {
           below = f .below;
           free = f .free;
@@ -66,7 +63,7 @@ pub search-none : (asked : List ℕ) (n k j : ℕ) → n < 256 → firstFree ask
 unfolding firstFree
 search-none asked n zero j hn e t ht h = absurd (omega arith)
 search-none asked n (suc k) j hn e t ht h =
-    pick-elim (holds asked (next n)) (λ u f. later u (search-none asked (next n) k j (omega arith) f t ht)) (λ u f. absurd (let z : _≡_ {A = ℕ} 0 1 = cc in omega arith)) e
+    pick-elim (holds asked (next n)) (λ u f. later u (search-none asked (next n) k j (omega arith) f t ht)) (λ u f. clash (cc)) e
   where
     later : holds asked (next n) ≡ true → (between (next n) t < k → holds asked t ≡ true) → holds asked t ≡ true
     later u f = elim (ℕ-discrete t (next n)) [ yes q ↦ rw q u | no q ↦ f (omega (arith, between-next n t hn ht q)) ]
@@ -75,7 +72,7 @@ pub search-nine : (asked : List ℕ) (n k j : ℕ) → firstFree asked n k ≡ r
 unfolding firstFree
 search-nine asked n zero j e = cc
 search-nine asked n (suc k) j e =
-    pick-elim (holds asked (next n)) (λ u f. search-nine asked (next n) k j f) (λ u f. absurd (let z : _≡_ {A = ℕ} 0 1 = cc in omega arith)) e
+    pick-elim (holds asked (next n)) (λ u f. search-nine asked (next n) k j f) (λ u f. clash (cc)) e
 
 pub search-full : (asked : List ℕ) (n k : ℕ) → ((t : ℕ) → t < 256 → holds asked t ≡ true) → firstFree asked n k ≡ refused 9
 unfolding firstFree
@@ -117,5 +114,5 @@ module _ (b : Book) (n : ℕ) where
   command-ten j = (to (holds (b .asked) n), λ h. rw (h .1) (ap refused (sym (h .0))))
     where
       to : (t : Bool) → demand t 10 (full (entry (b .asked) n)) ≡ refused j → (j ≡ 10) × (t ≡ false)
-      to true e = absurd (let z : _≡_ {A = ℕ} 0 1 = cc in omega arith)
+      to true e = clash (cc)
       to false e = (cc, refl)

@@ -9,13 +9,13 @@ use lib.ListN.{length, set, replicate, length-set, length-replicate, List·getD-
 use native.Mathlib.Decide.{decLt}
 use native.Mathlib.Omega.{arith}
 use borrow.Author.Tests.{ltb-true, lt-leb}
-use Rattle.refusal.specs.Test.{pick, both-left, both-right}
+use Rattle.refusal.specs.Test.{pick, both-left, both-right, not-both}
 use Rattle.refusal.specs.Answer.{Answer, refused, full}
 use Rattle.command.specs.Command.{Row, row, find, rows, shapeOf, named, isKnown}
 use Rattle.command.specs.declared.Shape.the-variants.{Unknown}
 use Rattle.book.specs.declared.Book.{Book}
 use Rattle.book.specs.Book.{nothing, entry, holds, freshBook, numberFor, noted, commandOf, freed}
-use Rattle.book.specs.Search.{clash, number-full}
+use Rattle.book.specs.Search.{number-full}
 use Rattle.book.specs.Run.{Call, ask, reply, after, run, bookOf}
 
 -- what stands for nothing is no known command
@@ -41,7 +41,7 @@ past-the-end c (row lo hi s ∷ rs) h e =
 
 pub known-byte : (c : ℕ) → isKnown c ≡ true → c < 256
 unfolding shapeOf ends
-known-byte c k = elim (decLt c 256) [ yes h ↦ h | no h ↦ absurd (clash k (ap named (past-the-end c rows (omega arith) refl))) ]
+known-byte c k = elim (decLt c 256) [ yes h ↦ h | no h ↦ (not-both k (ap named (past-the-end c rows (omega arith) refl))) ]
 
 -- nothing, or a command
 abbrev pub IsEntry : ℕ → Type 0
@@ -59,7 +59,7 @@ sound-byte {b} s n = ⊎-elim (λ e. omega arith) (known-byte (entry (b .asked) 
 pub held-below : {b : Book} → Sound b → (n : ℕ) → holds (b .asked) n ≡ true → n < 256
 held-below {b} s n h =
     elim (decLt n 256)
-    [ yes l ↦ l | no l ↦ absurd (clash h (ap isKnown (List·getD-eq-default (b .asked) nothing {n = n} (omega (arith, s .count))) ∙ nothing-free)) ]
+    [ yes l ↦ l | no l ↦ (not-both h (ap isKnown (List·getD-eq-default (b .asked) nothing {n = n} (omega (arith, s .count))) ∙ nothing-free)) ]
 
 pub fresh-entry : (k n : ℕ) → entry (replicate k nothing) n ≡ nothing
 fresh-entry zero n = refl

@@ -29,7 +29,7 @@ frameOf w (event m t k l) = eventFrame w m t k l
 
 -- the datagram is accepted, and gives these fields
 abbrev Reads : ℕ → List ℕ → Fields → Type 0
-Reads w d f = family.Reads (InRange w) (layout w) (readEvent w) (fieldsOf w) (frameOf w) d f
+Reads w d f = family.Reads (InRange w) (layout w) (readEvent w) (fieldsOf w) (InRange w) (frameOf w) d f
 
 regroup : (a b c d : List ℕ) → ((a ++ b) ++ c) ++ d ≡ a ++ (b ++ (c ++ d))
 regroup a b c d = simp append-assoc
@@ -170,6 +170,16 @@ frame-bytes w (event m t k l) (event-fits h₄ h₇ i a b) =
     (bytes-cons (bytes-head b) (bytes-cons {b = length l} (omega arith) bytes-none)))
     (bytes-tail b))
 
--- DEMAND 2 FOR EVENTS, over the width of the target
-pub events : (w : ℕ) → Demand2 (InRange w) (layout w) (readEvent w) (fieldsOf w) (frameOf w)
-events w = demand2 (InRange w) (layout w) (readEvent w) (fieldsOf w) (frameOf w) (accepted-frame w) (frame-bytes w) (in-range-written w) (read-written w)
+-- whose exclusive-or is 0, and is accepted
+frame-sum : (w : ℕ) (f : Fields) → InRange w f → sumOf (layout w f) ≡ 0
+frame-sum w f i = sealed-sum (head w f)
+
+frame-accepted : (w : ℕ) (f : Fields) → InRange w f → Reads w (layout w f) f
+unfolding x
+frame-accepted w (event m t k l) (event-fits h₄ h₇ i a b) = event-reads w m t k l h₄ h₇ i
+
+-- DEMAND 2 FOR EVENTS, over the width of the target. Whatever is in range may be written
+pub events : (w : ℕ) → Demand2 (InRange w) (layout w) (readEvent w) (fieldsOf w) (InRange w) (frameOf w)
+events w =
+    demand2 (InRange w) (layout w) (readEvent w) (fieldsOf w) (InRange w) (frameOf w)
+    (accepted-frame w) (frame-bytes w) (frame-sum w) (frame-accepted w) (λ f i. i) (in-range-written w) (read-written w)

@@ -1,15 +1,17 @@
 -- Document 01, "Refusals, by number": "no lent byte and no state changes. A writer returns the count written; bytes after the frame stay."
-use Prim.Native.Nat.{ℕ, suc, _+_, _≤_, _<_}
-use mathlib.Core.Path.{_≡_, sym, _∙_}
+use Prim.Native.Nat.{ℕ, _+_, _≤_, _<_}
+use mathlib.Core.Path.{_≡_, sym, ap, _∙_}
 use mathlib.Core.List.{List, _++_}
-use lib.ListN.{length, getD, take, drop, set, length-append}
-use lib.Seq.{paste, take-length, take-append-seam, drop-append-add, drop-drop, drop-cons, set-at, append-snoc}
+use lib.ListN.{length, take, drop, set, length-append}
+use lib.Seq.{take-at}
 use mathlib.Core.Bool.{true, false}
 use lib.Dec.{leb}
 use borrow.Author.Tests.{le-leb, lt-leb}
 use native.Mathlib.Nat.{zero-add}
 use native.Mathlib.Omega.{arith}
 use Rattle.sum.specs.Sum.{sumOf}
+use Rattle.lent.specs.Puts.{Puts}
+use Rattle.lent.specs.Over.{puts-room, puts-length, puts-then, puts-byte}
 use Rattle.refusal.specs.Test.{pick}
 use Rattle.refusal.specs.Answer.{Answer, refused, full, demand, determined}
 use Rattle.frame.specs.Frame.{sealed, sealed-length}
@@ -59,31 +61,35 @@ written-whole {f} {out} {p} {r} w h =
     let t : leb (length f) (length out) ≡ true = le-leb (length f) (length out) h in
     (said-one r (Count (length f)) (w .says ∙ rw t), w .leaves ∙ rw t)
 
--- the bytes of a run, their sum behind them, over a buffer with room for both
-module _ (h d o p q : List ℕ) (x : ℕ) (room : length h + length d < length o)
-    (ep : p ≡ paste o 0 h (length h)) (eq : q ≡ paste p (length h) d (length d)) (ex : x ≡ sumOf (take (length h + length d) q)) where
-  len : length (h ++ d) ≡ length h + length d
-  len = length-append h d
+-- a frame that was put at the start of a buffer with room for it is written
+pub put-written : {f out p : List ℕ} {n : ℕ} → length f ≤ length out → Puts f out 0 n p → Written (full f) out (Count n) p
+put-written {f} {out} {p} {n} h w =
+    let t : leb (length f) (length out) ≡ true = le-leb (length f) (length out) h in
+    let a = puts-room {t = f} {out = out} {at = 0} (omega arith) w in
+    let e : n ≡ length f = omega (arith, a .0) in
+    record { says = rw (t, e); leaves = a .1 ∙ rw (t, zero-add (length f)) }
 
-  put-both : q ≡ (h ++ d) ++ drop (length h + length d) o
-  put-both =
-      let p′ : p ≡ h ++ drop (length h) o = ep ∙ rw (zero-add (length h), take-length h) in
-      eq ∙ rw (p′, take-append-seam h (drop (length h) o), take-length d, drop-append-add h (drop (length h) o) (length d), drop-drop (length d) (length h) o)
+-- the bytes of a run, then those of another, then the sum of both, over a buffer with room for all
+module _ (h d o p q : List ℕ) (x m n : ℕ) (room : length h + length d < length o)
+    (first : Puts h o 0 m p) (second : Puts d p (length h) n q) (ex : x ≡ sumOf (take (length h + length d) q)) where
+  both : Puts (h ++ d) o 0 (length h + length d) q
+  both =
+      let a = puts-room {t = h} {out = o} {at = 0} (omega arith) first in
+      let b = puts-room {t = d} {out = p} {at = length h} (omega (arith, puts-length first)) second in
+      let e : m ≡ length h = omega (arith, a .0) in
+      let s : Puts d p m (length h + length d) q = rw (e, ← b .0) second in
+      puts-then {t = h} (omega arith) first s
 
-  put-sum : x ≡ sumOf (h ++ d)
-  put-sum = ex ∙ rw (put-both, ← len, take-append-seam (h ++ d) (drop (length (h ++ d)) o))
-
-  framed : set q (length h + length d) x ≡ sealed (h ++ d) ++ drop (length (sealed (h ++ d))) o
-  framed =
-      let l : length (sealed (h ++ d)) ≡ suc (length h + length d) = omega (arith, sealed-length (h ++ d), len) in
-      rw (put-both, l, drop-cons o (length h + length d) 0 room, put-sum, set-at (h ++ d) (getD o (length h + length d) 0) (drop (suc (length h + length d)) o) (sumOf (h ++ d)) (length h + length d) len)
-      (sym (append-snoc (h ++ d) (sumOf (h ++ d)) (drop (suc (length h + length d)) o)))
+  sum-put : x ≡ sumOf (h ++ d)
+  sum-put =
+      let b = puts-room {t = h ++ d} {out = o} {at = 0} (omega (arith, length-append h d)) both in
+      ex ∙ rw (b .1) (ap sumOf (take-at (h ++ d) (drop (0 + length (h ++ d)) o) (length h + length d) (length-append h d)))
 
   pub writes : Written (full (sealed (h ++ d))) o (Count (length h + length d + 1)) (set q (length h + length d) x)
   writes =
-      let l : length (sealed (h ++ d)) ≡ length h + length d + 1 = omega (arith, sealed-length (h ++ d), len) in
-      let t : leb (length (sealed (h ++ d))) (length o) ≡ true = le-leb (length (sealed (h ++ d))) (length o) (omega arith) in
-      record { says = rw (t, l); leaves = rw t framed }
+      let l : length (sealed (h ++ d)) ≡ length h + length d + 1 = omega (arith, sealed-length (h ++ d), length-append h d) in
+      put-written (omega arith)
+      (rw sum-put (puts-then {t = h ++ d} (omega (arith, length-append h d)) both (puts-byte (sumOf (h ++ d)) q (length h + length d) (omega (arith, puts-length both)))))
 
 pub no-room : (h d o : List ℕ) → length o ≤ length h + length d → Written (full (sealed (h ++ d))) o (Refused 8) o
 no-room h d o s =

@@ -1,11 +1,7 @@
 // A frame in a lent buffer: some bytes, and behind them the sum that makes the exclusive-or of all 0. It is the last step
 // of every writer, with the one refusal that all writers share: 8, the buffer is shorter than the frame.
 // Document 01, "Frames" and "Refusals, by number".
-ghost use Prim.Native.Nat.{_+_, _≤_};
-ghost use mathlib.Core.Path.{_≡_};
 ghost use mathlib.Core.List.{_++_};
-ghost use lib.ListN.{length};
-ghost use lib.Seq.{paste};
 ghost use Rattle.refusal.specs.Answer.{full};
 ghost use Rattle.frame.specs.Frame.{sealed};
 ghost use Rattle.frame.specs.Written.{Written};
@@ -14,18 +10,6 @@ ghost use Rattle.frame.specs.Written.{Written};
 pub enum Wrote {
     Count(usize),
     Refused(u8),
-}
-
-// Puts the bytes of a run into a buffer from a place on.
-fn put(out: &mut [u8], at: usize, s: &[u8])
-    requires { ⌜ at + length (now s) ≤ length (now out) ⌝ }
-    ensures { λ _. ⌜ now (out .exit) ≡ paste (now (out .entry)) at (now (s .entry)) (length (now (s .entry))) ⌝ }
-{
-    let mut i: usize = 0;
-    while i < s.len() {
-        out[at + i] = s[i];
-        i += 1;
-    }
 }
 
 // Writes the bytes of head, those of data, and their sum. Where they do not fit, no byte of the buffer changes; where they
@@ -38,8 +22,8 @@ pub fn write(head: &[u8], data: &[u8], out: &mut [u8]) -> Wrote
     if out.len() <= e {
         return Wrote::Refused(8);
     }
-    put(out, 0, head);
-    put(out, h, data);
+    lent::word(out, 0, head);
+    lent::word(out, h, data);
     let x = sum::xor(&out[..e]);
     out[e] = x;
     Wrote::Count(e + 1)

@@ -10,14 +10,14 @@ use borrow.Author.Tests.{le-leb, lt-leb, leb-true, leb-false}
 use native.Mathlib.Nat.{add-zero, sub-zero}
 use native.Mathlib.Omega.{arith}
 use Rattle.refusal.specs.Test.{pick}
-use Rattle.text.specs.Puts.{fits, over, Puts}
+use Rattle.lent.specs.Puts.{fits, over, Puts}
 use Rattle.stream.specs.declared.Step.{Step}
 use Rattle.stream.specs.declared.Step.the-variants.{More, Item as Settled}
 use Rattle.stream.specs.Stream.{Item, reading, numberOf, sizeOf, countsOf}
 use Rattle.stream.specs.Lawful.{Lawful}
 use Rattle.items.specs.declared.Poured.{Poured}
 use Rattle.items.specs.Text.{lineOf, textOf, line-some}
-use Rattle.items.specs.Over.{puts-room}
+use Rattle.lent.specs.Over.{puts-room}
 use Rattle.items.specs.Pour.{isReady, ready, fitting, poured, Pours}
 use Rattle.items.specs.Ready.{ready-none, ready-next, ready-waits}
 

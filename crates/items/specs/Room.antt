@@ -4,9 +4,10 @@ use mathlib.Core.Path.{_≡_, refl, sym, _∙_}
 use mathlib.Core.Bool.{Bool, true, false}
 use mathlib.Core.List.{List}
 use lib.ListN.{length, take, length-take}
-use lib.Dec.{ltb, eqb}
+use lib.Dec.{ltb}
 use borrow.Author.Tests.{ltb-true, ltb-false, ne-eqb}
 use native.Mathlib.Omega.{arith}
+use Rattle.refusal.specs.Test.{clash}
 use Rattle.text.specs.Text.{decimalOf}
 use Rattle.stream.specs.declared.Step.{Step}
 use Rattle.stream.specs.declared.Step.the-variants.{More, Item as Settled}
@@ -44,10 +45,10 @@ occurs-digit on k e = go on (ltb k 10) refl e
     go on true q e = ltb-true k 10 q
     go Request false q e =
         let h = ltb-false k 10 q in
-        absurd (let z : false ≡ true = sym (rw (ne-eqb k 0 (λ j. omega arith), ne-eqb k 2 (λ j. omega arith), ne-eqb k 3 (λ j. omega arith), ne-eqb k 4 (λ j. omega arith), ne-eqb k 6 (λ j. omega arith), ne-eqb k 7 (λ j. omega arith))) ∙ e in let y : _≡_ {A = ℕ} 0 1 = cc in omega arith)
+        clash (let z : false ≡ true = sym (rw (ne-eqb k 0 (λ j. omega arith), ne-eqb k 2 (λ j. omega arith), ne-eqb k 3 (λ j. omega arith), ne-eqb k 4 (λ j. omega arith), ne-eqb k 6 (λ j. omega arith), ne-eqb k 7 (λ j. omega arith))) ∙ e in cc)
     go Reply false q e =
         let h = ltb-false k 10 q in
-        absurd (let z : false ≡ true = sym (rw (ne-eqb k 0 (λ j. omega arith), ne-eqb k 2 (λ j. omega arith), ne-eqb k 4 (λ j. omega arith), ne-eqb k 6 (λ j. omega arith))) ∙ e in let y : _≡_ {A = ℕ} 0 1 = cc in omega arith)
+        clash (let z : false ≡ true = sym (rw (ne-eqb k 0 (λ j. omega arith), ne-eqb k 2 (λ j. omega arith), ne-eqb k 4 (λ j. omega arith), ne-eqb k 6 (λ j. omega arith))) ∙ e in cc)
 
 number-digit : (on : Line) (s : List ℕ) → numberOf (settle on s) < 10
 number-digit on s = go (settle on s) (numbers on s)

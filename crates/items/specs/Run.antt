@@ -3,13 +3,14 @@
 use Prim.Native.Nat.{ℕ, zero, suc, _+_, _≤_, _<_}
 use mathlib.Core.Path.{_≡_, refl, sym, ap, _∙_}
 use mathlib.Core.Bool.{Bool, true, false}
-use mathlib.Core.List.{List, [], _∷_, _++_, append-assoc, append-nil}
+use mathlib.Core.List.{List, [], _∷_, _++_, append-assoc}
 use lib.ListN.{length, take, drop, length-drop}
 use native.Mathlib.Nat.{add-zero}
 use native.Mathlib.Omega.{arith}
+use Rattle.refusal.specs.Test.{clash}
 use Rattle.stream.specs.declared.Step.{Step}
 use Rattle.stream.specs.declared.Step.the-variants.{More, Item as Settled}
-use Rattle.stream.specs.Stream.{Item, reading, numberOf, sizeOf, items, countsOf, whole}
+use Rattle.stream.specs.Stream.{Item, numberOf, sizeOf, items, countsOf, whole}
 use Rattle.stream.specs.Lawful.{Lawful, size-some}
 use Rattle.stream.specs.Items.{items-none}
 use Rattle.line.specs.declared.Line.{Line}
@@ -50,7 +51,7 @@ some e f = let z : _≡_ {A = ℕ} 0 1 = cc in omega arith
 -- a run that is closed reads no more
 closed-last : {rule : List ℕ → Step} {room : ℕ} {closed : Bool} {h : List ℕ} {ps : List (List ℕ)} {text : List ℕ} → Run rule room closed h ps text → closed ≡ true → ps ≡ []
 closed-last (writes e l r) c = closed-last r c
-closed-last (reads e r) c = absurd (let z : _≡_ {A = ℕ} 0 1 = cc in omega arith)
+closed-last (reads e r) c = clash (cc)
 closed-last (closes e r) c = refl
 closed-last (ends e) c = refl
 
@@ -66,13 +67,13 @@ module _ (rule : List ℕ → Step) (law : Lawful rule) (room : ℕ) (roomy : Ro
     where
       waits : (x : Step) → rule h ≡ x → isReady false (rule h) ≡ false → rule h ≡ More
       waits More q r = q
-      waits (Settled k m d) q r = absurd (let z : true ≡ false = sym (ap (isReady false) q) ∙ r in let y : _≡_ {A = ℕ} 0 1 = cc in omega arith)
+      waits (Settled k m d) q r = clash (let z : true ≡ false = sym (ap (isReady false) q) ∙ r in cc)
 
   pub none-left : (h : List ℕ) → poured rule true room h ≡ [] → h ≡ []
   none-left h e =
       poured-cases rule law true room h
       (λ l r f q. absurd (some q e))
-      (λ r q. absurd (let z : true ≡ false = sym (always (rule h)) ∙ r in let y : _≡_ {A = ℕ} 0 1 = cc in omega arith))
+      (λ r q. clash (let z : true ≡ false = sym (always (rule h)) ∙ r in cc))
       (λ n q. n)
       (λ f q. absurd (omega (arith, roomy .one h)))
 

@@ -5,7 +5,7 @@ ghost use Prim.Native.Nat.{_+_, _*_, _≤_, _<_, min};
 ghost use mathlib.Core.Path.{_≡_};
 ghost use lib.ListN.{length, drop};
 ghost use Rattle.text.specs.Text.{digit as digitOf, decimalOf};
-ghost use Rattle.text.specs.Puts.{Puts};
+ghost use Rattle.lent.specs.Puts.{Puts};
 ghost use Rattle.stream.specs.Stream.{reading, numberOf, sizeOf};
 ghost use Rattle.line.specs.Rule.{settle};
 ghost use Rattle.items.specs.Text.{hexes, headOf, lineOf};
@@ -93,9 +93,9 @@ fn long_head(out: &mut [u8], number: u8, n: usize) -> usize
     ensures { λ r. ⌜ Puts (headOf number n) (now (out .entry)) 0 r (now (out .exit)) ⌝ }
 {
     let a = text::decimal(out, 0, number as u64);
-    let b = text::byte(out, a, 32);
+    let b = lent::byte(out, a, 32);
     let c = text::decimal(out, b, n as u64);
-    text::byte(out, c, 32)
+    lent::byte(out, c, 32)
 }
 
 // Puts the line of any item. What stands in front of its bytes is made aside first: only its length tells the room.
@@ -114,7 +114,7 @@ fn long_line(out: &mut [u8], at: usize, number: u8, s: &[u8]) -> usize
     if out.len() - at - 2 * n <= size {
         return at;
     }
-    let h = text::word(out, at, &head[..size]);
+    let h = lent::word(out, at, &head[..size]);
     let e = put_bytes(out, h, s);
     out[e] = 10;
     e + 1

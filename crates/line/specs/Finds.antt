@@ -6,6 +6,7 @@ use mathlib.Core.List.{List, [], _∷_, _++_, append-nil}
 use lib.ListN.{length, take, drop}
 use lib.Seq.{take-length, drop-length}
 use native.Mathlib.Omega.{arith}
+use Rattle.refusal.specs.Test.{clash}
 use Rattle.stream.specs.declared.Step.{Step}
 use Rattle.stream.specs.declared.Step.the-variants.{Item}
 use Rattle.stream.specs.Stream.{Item as Read, reading, numberOf, sizeOf, items}
@@ -31,7 +32,7 @@ abbrev pub Accepted : Line → List ℕ → Type 0
 Accepted on f = settle on f ≡ Item 0 (length f) (length f)
 
 either-false : (a b : Bool) → a || b ≡ false → (a ≡ false) × (b ≡ false)
-either-false true b e = absurd (let z : _≡_ {A = ℕ} 0 1 = cc in omega arith)
+either-false true b e = clash (cc)
 either-false false b e = (refl, e)
 
 -- item 6 has one byte

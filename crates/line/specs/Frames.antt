@@ -8,6 +8,7 @@ use lib.Seq.{take-length}
 use lib.Dec.{eqb}
 use borrow.Author.Tests.{eqb-true}
 use native.Mathlib.Omega.{arith}
+use Rattle.refusal.specs.Test.{clash}
 use Rattle.stream.specs.declared.Step.{Step}
 use Rattle.stream.specs.declared.Step.the-variants.{Item}
 use Rattle.stream.specs.Lawful.{not-more}
@@ -59,7 +60,7 @@ pub whole-frame : (on : Line) (s : List ℕ) (k m d : ℕ) → settle on s ≡ I
 whole-frame on s k m d e w = go (shows on s) e
   where
     no : {P : Type 0} (j : ℕ) → isWhole j ≡ false → j ≡ k → P
-    no j f q = absurd (let y : isWhole j ≡ true = rw q w in let z : _≡_ {A = ℕ} 0 1 = cc in omega arith)
+    no j f q = clash (let y : isWhole j ≡ true = rw q w in cc)
 
     go : {x : Step} → Shows on s x → x ≡ Item k m d → Leads on s (Frame d) × (d ≤ length s) × (judged on d (take d s) ≡ x)
     go (none h) e = not-more (sym e)

@@ -5,7 +5,7 @@ use mathlib.Core.Bool.{Bool, true, false, _||_}
 use mathlib.Core.List.{List}
 use lib.Dec.{eqb}
 use borrow.Author.Tests.{eqb-true}
-use native.Mathlib.Omega.{arith}
+use Rattle.refusal.specs.Test.{clash}
 use Rattle.stream.specs.declared.Step.{Step}
 use Rattle.stream.specs.declared.Step.the-variants.{More, Item}
 use Rattle.line.specs.declared.Line.{Line}
@@ -47,7 +47,7 @@ shown on s (part n f h) = refl
 shown Request s (bad-sum n f h q) = refl
 shown Reply s (bad-sum n f h q) = refl
 shown Request s (outside n f h q e) = refl
-shown Reply s (outside n f h q e) = absurd (let z : _≡_ {A = ℕ} 0 1 = cc in omega arith)
+shown Reply s (outside n f h q e) = clash (cc)
 shown Request s (good n f h q e) = refl
 shown Reply s (good n f h q e) = refl
 

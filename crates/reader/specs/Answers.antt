@@ -4,6 +4,7 @@ use mathlib.Core.Path.{_≡_, refl, sym, ap, _∙_}
 use mathlib.Core.List.{List, [], _++_}
 use lib.ListN.{length, take, length-append, length-take, length-drop}
 use native.Mathlib.Omega.{arith}
+use Rattle.refusal.specs.Test.{clash}
 use Rattle.stream.specs.Stream.{Item, reading, Fed, nothing, found, Closed, empty, last, feed, close}
 use Rattle.stream.specs.Fewest.{Fewest, found-fewest}
 use Rattle.stream.specs.Cut.{feed-nothing, close-less}
@@ -67,7 +68,7 @@ module _ (on : Line) where
       where
         go : (x : Fed) → feed (settle on) (heldOf on h) p ≡ x
             → feed (settle on) (heldOf on h) p ≡ found (fedAfter on h p .taken) (gave k (fedAfter on h p)) (heldOf on (fedAfter on h p .held))
-        go (nothing g) e = absurd (let w = nothing-fed g e .0 in let z : _≡_ {A = ℕ} 0 1 = cc in omega arith)
+        go (nothing g) e = clash (let w = nothing-fed g e .0 in cc)
         go (found j (reading k′ l) g) e =
             let w = found-fed j k′ l g e in
             let q : k′ ≡ k = (let n = w .number in cc) in
@@ -78,7 +79,7 @@ module _ (on : Line) where
       where
         go : (x : Fed) → feed (settle on) (heldOf on h) p ≡ x → feed (settle on) (heldOf on h) p ≡ nothing (heldOf on (fedAfter on h p .held))
         go (nothing g) e = e ∙ sym (ap nothing (nothing-fed g e .1))
-        go (found j (reading k l) g) e = absurd (let w = found-fed j k l g e .number in let z : _≡_ {A = ℕ} 0 1 = cc in omega arith)
+        go (found j (reading k l) g) e = clash (let w = found-fed j k l g e .number in cc)
 
     pub fed-found : (r : Given) (k : ℕ) → r ≡ fedAfter on h p → r .got ≡ Got·Item k → feed (settle on) (heldOf on h) p ≡ found (r .taken) (gave k r) (heldOf on (r .held))
     fed-found r k er en = rw er (feed-answers k (ap (λ (x : Given). x .got) (sym er) ∙ en))
@@ -100,7 +101,7 @@ module _ (on : Line) where
     close-answers k en = go (close (settle on) (heldOf on h)) refl
       where
         go : (x : Closed) → close (settle on) (heldOf on h) ≡ x → close (settle on) (heldOf on h) ≡ last (gave k (closedAfter on h)) (heldOf on (closedAfter on h .held))
-        go empty e = absurd (let w = empty-closed e .0 in let z : _≡_ {A = ℕ} 0 1 = cc in omega arith)
+        go empty e = clash (let w = empty-closed e .0 in cc)
         go (last (reading k′ l) g) e =
             let w = last-closed k′ l g e in
             let q : k′ ≡ k = (let n = w .number in cc) in
@@ -111,7 +112,7 @@ module _ (on : Line) where
       where
         go : (x : Closed) → close (settle on) (heldOf on h) ≡ x → close (settle on) (heldOf on h) ≡ empty
         go empty e = e
-        go (last (reading k l) g) e = absurd (let w = last-closed k l g e .number in let z : _≡_ {A = ℕ} 0 1 = cc in omega arith)
+        go (last (reading k l) g) e = clash (let w = last-closed k l g e .number in cc)
 
     pub closed-last : (r : Given) (k : ℕ) → r ≡ closedAfter on h → r .got ≡ Got·Item k → close (settle on) (heldOf on h) ≡ last (gave k r) (heldOf on (r .held))
     closed-last r k er en = rw er (close-answers k (ap (λ (x : Given). x .got) (sym er) ∙ en))

@@ -5,6 +5,7 @@ use mathlib.Core.List.{List, [], _∷_, _++_}
 use lib.ListN.{length, take, length-take, length-drop}
 use lib.Seq.{take-append-add}
 use native.Mathlib.Omega.{arith}
+use Rattle.refusal.specs.Test.{clash}
 use Rattle.stream.specs.declared.Step.the-variants.{More}
 use Rattle.stream.specs.Stream.{reading, Fed, nothing, found, Closed, empty, last, sizeOf, feed, close}
 use Rattle.stream.specs.Lawful.{prefix-waits}
@@ -32,7 +33,7 @@ found-fits on h p g j k l e =
 
 last-fits : (on : Line) (h g : List ℕ) (k : ℕ) (l : List ℕ) → close (settle on) h ≡ last (reading k l) g → length l ≤ length h
 unfolding close
-last-fits on [] g k l e = absurd (let z : _≡_ {A = ℕ} 0 1 = cc in omega arith)
+last-fits on [] g k l e = clash (cc)
 last-fits on (b ∷ s) g k l e =
     let q : take (sizeOf (settle on (b ∷ s))) (b ∷ s) ≡ l = cc in
     rw (← q) (simp length-take (omega arith))

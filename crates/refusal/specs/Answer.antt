@@ -2,8 +2,7 @@
 use Prim.Native.Nat.{ℕ}
 use mathlib.Core.Path.{_≡_, refl, sym, ap, _∙_}
 use mathlib.Core.Bool.{Bool, true, false}
-use native.Mathlib.Omega.{arith}
-use Rattle.refusal.specs.Test.{pick}
+use Rattle.refusal.specs.Test.{pick, clash}
 
 -- what a call answers: a refusal, by its number, or a full answer
 pub data Answer (A : Type 0) : Type 0 where
@@ -17,7 +16,7 @@ demand t k x = pick t x (refused k)
 -- a full answer met each demand
 pub demand-elim : {A : Type 0} {P : Type 0} (t : Bool) (k : ℕ) {x : Answer A} {v : A} → (t ≡ true → x ≡ full v → P) → demand t k x ≡ full v → P
 demand-elim true k f e = f refl e
-demand-elim false k f e = absurd (let z : _≡_ {A = ℕ} 0 1 = cc in omega arith)
+demand-elim false k f e = clash (cc)
 
 -- two full answers that are equal are full of the same, and no full answer is a refusal
 pub full-one : {A : Type 0} {v w : A} → full v ≡ full w → v ≡ w

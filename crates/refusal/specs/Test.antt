@@ -17,6 +17,14 @@ pub pick-elim : {A : Type 0} {P : Type 0} (t : Bool) {x y i : A} → (t ≡ true
 pick-elim true f g e = f refl e
 pick-elim false f g e = g refl e
 
+-- what contradicts itself shows anything: `clash (cc)`, where the equations at hand make 0 of 1
+pub clash : {P : Type 0} → _≡_ {A = ℕ} 0 1 → P
+clash e = absurd (omega arith)
+
+-- no test comes out both ways
+pub not-both : {P : Type 0} {t : Bool} → t ≡ true → t ≡ false → P
+not-both e f = clash (cc)
+
 -- both tests of a pair, and one of two
 pub both-left : (a b : Bool) → a && b ≡ true → a ≡ true
 both-left true b e = refl
@@ -24,4 +32,4 @@ both-left false b e = e
 
 pub both-right : (a b : Bool) → a && b ≡ true → b ≡ true
 both-right true b e = e
-both-right false b e = absurd (let z : _≡_ {A = ℕ} 0 1 = cc in omega arith)
+both-right false b e = clash (cc)

@@ -24,7 +24,7 @@ frameOf (reply t s l) = replyFrame t s l
 
 -- the datagram is accepted, and gives these fields
 abbrev Reads : List ℕ → Fields → Type 0
-Reads d f = family.Reads InRange layout readReply fieldsOf frameOf d f
+Reads d f = family.Reads InRange layout readReply fieldsOf InRange frameOf d f
 
 -- each layout reads as its fields
 reply-reads : (t s : ℕ) (l : List ℕ) → isReply t ≡ true → length l ≤ 64 → Reads (layout (reply t s l)) (reply t s l)
@@ -78,6 +78,15 @@ frame-bytes : (f : Fields) → InRange f → Bytes (layout f)
 frame-bytes (reply t s l) (reply-fits h m b) =
     sealed-bytes (bytes-cons (bytes-head b) (bytes-cons (bytes-head (bytes-tail b)) (bytes-cons {b = length l} (omega arith) (bytes-tail (bytes-tail b)))))
 
--- DEMAND 2 FOR REPLIES
-pub replies : Demand2 InRange layout readReply fieldsOf frameOf
-replies = demand2 InRange layout readReply fieldsOf frameOf accepted-frame frame-bytes in-range-written read-written
+-- whose exclusive-or is 0, and is accepted
+frame-sum : (f : Fields) → InRange f → sumOf (layout f) ≡ 0
+frame-sum f i = sealed-sum (head f)
+
+frame-accepted : (f : Fields) → InRange f → Reads (layout f) f
+frame-accepted (reply t s l) (reply-fits h m b) = reply-reads t s l h m
+
+-- DEMAND 2 FOR REPLIES. Whatever is in range may be written
+pub replies : Demand2 InRange layout readReply fieldsOf InRange frameOf
+replies =
+    demand2 InRange layout readReply fieldsOf InRange frameOf
+    accepted-frame frame-bytes frame-sum frame-accepted (λ f i. i) in-range-written read-written

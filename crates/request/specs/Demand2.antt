@@ -7,6 +7,7 @@ use lib.ListN.{length}
 use lib.Dec.{leb, eqb}
 use borrow.Author.Tests.{eqb-true, eq-eqb}
 use native.Mathlib.Omega.{arith}
+use Rattle.refusal.specs.Test.{clash}
 use Rattle.refusal.specs.Answer.{Answer, full, demand-elim, full-one}
 use Rattle.sum.specs.Bytes.{Bytes, bytes-none, bytes-cons, bytes-head, bytes-tail}
 use Rattle.sum.specs.Sum.{sumOf}
@@ -32,7 +33,7 @@ frameOf (unicast s port i j k l) = unicastFrame s port (record { 0 = i; 1 = j; 2
 
 -- the datagram is accepted, and gives these fields
 abbrev Reads : List ℕ → Fields → Type 0
-Reads d f = family.Reads InRange layout readRequest (λ r x. fieldsOf r) frameOf d f
+Reads d f = family.Reads InRange layout readRequest (λ r x. fieldsOf r) InRange frameOf d f
 
 pair-high : (h l : ℕ) → h < 256 → l < 256 → high (pair h l) ≡ h
 unfolding numberOf
@@ -76,8 +77,8 @@ read-written : (f : Fields) (x : List ℕ) → frameOf f ≡ full x → Reads x 
 read-written (basic s k a b c d) x e = go (shapeOf k) refl e
   where
     go : (h : Shape) → shapeOf k ≡ h → basicOf h s k (record { a = a; b = b; c = c; d = d }) ≡ full x → Reads x (basic s k a b c d)
-    go Unknown h e = absurd (let z : _≡_ {A = ℕ} 0 1 = cc in omega arith)
-    go Unicast h e = absurd (let z : _≡_ {A = ℕ} 0 1 = cc in omega arith)
+    go Unknown h e = clash (cc)
+    go Unicast h e = clash (cc)
     go (Basic rule) h e = demand-elim (fits rule a b c d) 7 (λ t q. let o : layout (basic s k a b c d) ≡ x = full-one q in rw o at (basic-reads rule s k a b c d h t)) e
 read-written (unicast s port i j k l) x e = let o : layout (unicast s port i j k l) ≡ x = full-one e in rw o at (unicast-reads s port i j k l)
 
@@ -135,7 +136,7 @@ accepted-frame d r bs =
     (λ h. go (eqb-true (byte 0 d) 0x04 h) (shapeOf (byte 2 d)) refl))
   where
     go : byte 0 d ≡ 0x04 → (x : Shape) → shapeOf (byte 2 d) ≡ x → readShape x d ≡ full r → InRange (fieldsOf r) × (d ≡ layout (fieldsOf r))
-    go lead Unknown h e = absurd (let z : _≡_ {A = ℕ} 0 1 = cc in omega arith)
+    go lead Unknown h e = clash (cc)
     go lead (Basic rule) h e = basic-frame d rule r bs lead h e
     go lead Unicast h e = unicast-frame d r bs lead h e
 
@@ -153,6 +154,16 @@ head-bytes (unicast-fits {s} {port} {i} {j} {k} {l} p b) =
 frame-bytes : (f : Fields) → InRange f → Bytes (layout f)
 frame-bytes f i = sealed-bytes (head-bytes i)
 
--- DEMAND 2 FOR REQUESTS
-pub requests : Demand2 InRange layout readRequest (λ r d. fieldsOf r) frameOf
-requests = demand2 InRange layout readRequest (λ r d. fieldsOf r) frameOf accepted-frame frame-bytes in-range-written read-written
+-- whose exclusive-or is 0, and is accepted
+frame-sum : (f : Fields) → InRange f → sumOf (layout f) ≡ 0
+frame-sum f i = sealed-sum (head f)
+
+frame-accepted : (f : Fields) → InRange f → Reads (layout f) f
+frame-accepted (basic s k a b c d) (basic-fits rule h t z) = basic-reads rule s k a b c d h t
+frame-accepted (unicast s port i j k l) (unicast-fits p z) = unicast-reads s port i j k l
+
+-- DEMAND 2 FOR REQUESTS. Whatever is in range may be written
+pub requests : Demand2 InRange layout readRequest (λ r d. fieldsOf r) InRange frameOf
+requests =
+    demand2 InRange layout readRequest (λ r d. fieldsOf r) InRange frameOf
+    accepted-frame frame-bytes frame-sum frame-accepted (λ f i. i) in-range-written read-written

@@ -4,6 +4,7 @@ use mathlib.Core.Path.{_≡_, refl, sym, ap, ap₂, _∙_}
 use mathlib.Core.List.{List, [], _∷_, _++_, append-assoc, append-nil}
 use lib.ListN.{length, take, drop, length-append, length-take, length-drop, take-append-drop}
 use native.Mathlib.Omega.{arith}
+use Rattle.refusal.specs.Test.{clash}
 use Rattle.stream.specs.declared.Step.{Step}
 use Rattle.stream.specs.declared.Step.the-variants.{More, Item as Settled}
 use Rattle.stream.specs.Stream.{Item, reading, Fed, nothing, found, Closed, empty, last, numberOf, sizeOf, whole}
@@ -39,7 +40,7 @@ module _ (settle : List ℕ → Step) (law : Lawful settle) where
           (cc, s)
       go (Settled k m d) s =
           let f : nothing g ≡ fedBy (Settled k m d) h p = sym e ∙ feed-once settle law h p ∙ simp s in
-          absurd (let z : _≡_ {A = ℕ} 0 1 = cc in omega arith)
+          clash (cc)
 
   -- a call that gives an item gives the next one of the stream
   pub feed-found : (h p g t : List ℕ) (j : ℕ) (i : Item) → feed settle h p ≡ found j i g
@@ -65,11 +66,11 @@ module _ (settle : List ℕ → Step) (law : Lawful settle) where
   pub close-empty : (h : List ℕ) → close settle h ≡ empty → h ≡ []
   unfolding close
   close-empty [] e = refl
-  close-empty (b ∷ s) e = absurd (let z : _≡_ {A = ℕ} 0 1 = cc in omega arith)
+  close-empty (b ∷ s) e = clash (cc)
 
   pub close-last : (h g : List ℕ) (i : Item) → close settle h ≡ last i g → items settle h ≡ i ∷ items settle g
   unfolding close
-  close-last [] g i e = absurd (let z : _≡_ {A = ℕ} 0 1 = cc in omega arith)
+  close-last [] g i e = clash (cc)
   close-last (b ∷ s) g i e =
       let ei : reading (numberOf (settle (b ∷ s))) (take (sizeOf (settle (b ∷ s))) (b ∷ s)) ≡ i = cc in
       let eg : drop (sizeOf (settle (b ∷ s))) (b ∷ s) ≡ g = cc in
@@ -77,7 +78,7 @@ module _ (settle : List ℕ → Step) (law : Lawful settle) where
 
   pub close-less : (h g : List ℕ) (i : Item) → close settle h ≡ last i g → length g < length h
   unfolding close
-  close-less [] g i e = absurd (let z : _≡_ {A = ℕ} 0 1 = cc in omega arith)
+  close-less [] g i e = clash (cc)
   close-less (b ∷ s) g i e =
       let eg : drop (sizeOf (settle (b ∷ s))) (b ∷ s) ≡ g = cc in
       rw (← eg) (simp length-drop (omega (arith, size-some settle law (b ∷ s))))

@@ -9,6 +9,7 @@ use lib.Dec.{ltb}
 use borrow.Author.Tests.{ltb-true, ltb-false}
 use native.Mathlib.Nat.{zero-add, add-zero}
 use native.Mathlib.Omega.{arith}
+use Rattle.refusal.specs.Test.{clash}
 use Rattle.stream.specs.declared.Step.{Step}
 use Rattle.stream.specs.declared.Step.the-variants.{More, Item as Settled}
 use Rattle.stream.specs.Stream.{Item, reading, Fed, nothing, found, feedFrom, feed}
@@ -79,7 +80,7 @@ module _ (settle : List ℕ → Step) where
       go : (x : Step) → settle h ≡ x → (c : ℕ) × (j′ ≡ j + c) × Fewest settle h [] c i g
       go More s =
           let f : nothing h ≡ found j′ i g = simp s at e in
-          absurd (let z : _≡_ {A = ℕ} 0 1 = cc in omega arith)
+          clash (cc)
       go (Settled k m d) s = at-once h [] g j j′ i k m d s (simp s at e)
   found-from h (b ∷ p) g j j′ i e = go (settle h) refl (found-from (h ++ (b ∷ [])) p g (suc j) j′ i)
     where

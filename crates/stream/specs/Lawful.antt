@@ -5,6 +5,7 @@ use mathlib.Core.List.{List, _++_}
 use lib.ListN.{length, take, drop, length-take, take-append-drop}
 use lib.Seq.{take-all, take-take}
 use native.Mathlib.Omega.{arith}
+use Rattle.refusal.specs.Test.{clash}
 use Rattle.stream.specs.declared.Step.{Step}
 use Rattle.stream.specs.declared.Step.the-variants.{More, Item as Settled}
 use Rattle.stream.specs.Stream.{sizeOf}
@@ -21,7 +22,7 @@ pub record Lawful (settle : List ℕ → Step) : Type 0 where
 
 -- no step is both
 pub not-more : {P : Type 0} {k m d : ℕ} → Settled k m d ≡ More → P
-not-more e = absurd (let z : _≡_ {A = ℕ} 0 1 = cc in omega arith)
+not-more e = clash (cc)
 
 pub same-by : {k m d k′ m′ d′ : ℕ} → Settled k m d ≡ Settled k′ m′ d′ → d ≡ d′
 same-by e = cc

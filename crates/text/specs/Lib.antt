@@ -1,3 +1,3 @@
 pub mod Text
 pub mod Decimal
-pub mod Puts
+pub mod Spell

@@ -1,43 +1,11 @@
-// Text in a lent buffer, from a place on: a byte, the bytes of a word, a byte as two hexadecimal digits, a number in decimal.
-// Each function answers the place behind what it wrote. Where there is no room for the whole of it, it writes nothing and
-// answers the place that it was given. It leans on crate refusal for the words of a test. It is what a program's output is
-// made of: document 01, "A small program".
-ghost use Prim.Native.Nat.{_+_, _≤_, _<_};
+// Text in a lent buffer, from a place on: a byte as two hexadecimal digits, a number in decimal. Each function answers the place
+// behind what it wrote; where there is no room for the whole of it, it writes nothing and answers the place that it was given
+// (crate lent, whose contract it has). It is what a program's output is made of: document 01, "A small program".
+ghost use Prim.Native.Nat.{_/_, _%_, _<_};
 ghost use mathlib.Core.Path.{_≡_};
-ghost use mathlib.Core.List.{[], _∷_};
 ghost use lib.ListN.{length};
 ghost use Rattle.text.specs.Text.{digit as digitOf, hexOf, decimalOf};
-ghost use Rattle.text.specs.Puts.{Puts};
-
-// Puts a byte as it is.
-pub fn byte(out: &mut [u8], at: usize, b: u8) -> usize
-    ensures { λ r. ⌜ Puts (b ∷ []) (now (out .entry)) at r (now (out .exit)) ⌝ }
-{
-    if out.len() <= at {
-        return at;
-    }
-    out[at] = b;
-    at + 1
-}
-
-// Puts the bytes of a word as they are.
-pub fn word(out: &mut [u8], at: usize, s: &[u8]) -> usize
-    ensures { λ r. ⌜ Puts (now (s .entry)) (now (out .entry)) at r (now (out .exit)) ⌝ }
-{
-    let n = s.len();
-    if out.len() < n {
-        return at;
-    }
-    if out.len() - n < at {
-        return at;
-    }
-    let mut i: usize = 0;
-    while i < n {
-        out[at + i] = s[i];
-        i += 1;
-    }
-    at + n
-}
+ghost use Rattle.lent.specs.Puts.{Puts};
 
 // A digit, `0` to `9`, then `A` to `F`.
 fn digit(d: u8) -> u8
@@ -45,6 +13,20 @@ fn digit(d: u8) -> u8
     ensures { λ r. ⌜ r ≡ digitOf d ⌝ }
 {
     if d < 10 { 48 + d } else { 55 + d }
+}
+
+// The first of a byte's two hexadecimal digits.
+pub fn high_digit(b: u8) -> u8
+    ensures { λ r. ⌜ r ≡ digitOf (b / 16) ⌝ }
+{
+    digit(b / 16)
+}
+
+// The second.
+pub fn low_digit(b: u8) -> u8
+    ensures { λ r. ⌜ r ≡ digitOf (b % 16) ⌝ }
+{
+    digit(b % 16)
 }
 
 // Puts a byte as two hexadecimal digits, in capitals.
@@ -57,8 +39,8 @@ pub fn hex(out: &mut [u8], at: usize, b: u8) -> usize
     if out.len() - 2 < at {
         return at;
     }
-    let high = digit(b / 16);
-    let low = digit(b % 16);
+    let high = high_digit(b);
+    let low = low_digit(b);
     out[at] = high;
     out[at + 1] = low;
     at + 2

@@ -13,11 +13,11 @@ returns c =
     let a = c .before .before .before .before .args in
     no-room (a .head .now) (a .«data» .now) (a .out .now) (c .if1 .taken)
 
-put-requires : tie.Need-put-requires
-put-requires c κs = search needs
+word-requires : tie.Need-word-requires
+word-requires c κs = search needs
 
-put-requires-2 : tie.Need-put-requires-2
-put-requires-2 c κs = search needs
+word-requires-2 : tie.Need-word-requires-2
+word-requires-2 c κs = search needs
 
 slice-reshare-prefix-xor : tie.Need-slice-reshare-prefix-xor
 slice-reshare-prefix-xor c = search needs
@@ -40,7 +40,7 @@ same-length c = simp length-set (omega arith)
 returns-2 : tie.Need-returns-2
 returns-2 c =
     let a = c .before .before .before .before .before .before .before .before .before .before .before .before .before .before .args in
-    writes (a .head .now) (a .«data» .now) (a .out .now) _ _ _ (search needs) (c .before .before .before .before .before .before .before .before .put .ensures) (c .before .before .before .before .put2 .ensures) (c .xor .ensures)
+    writes (a .head .now) (a .«data» .now) (a .out .now) _ _ _ _ _ (search needs) (c .before .before .before .before .before .before .before .before .word .ensures) (c .before .before .before .before .word2 .ensures) (c .xor .ensures)
 
 pub write-spec : {M : Type 1} → statement M
 write-spec =
@@ -48,8 +48,8 @@ write-spec =
     (tie.spec
     add-e
     returns
-    put-requires
-    put-requires-2
+    word-requires
+    word-requires-2
     slice-reshare-prefix-xor
     slice-aggregate-xor
     xor-requires

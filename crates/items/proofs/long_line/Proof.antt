@@ -3,7 +3,7 @@ use mathlib.Core.Path.{_≡_, refl, sym}
 use lib.ListN.{length, take, length-set}
 use lib.Seq.{length-take-le}
 use native.Mathlib.Omega.{arith}
-use Rattle.text.specs.Puts.{Puts, no-room}
+use Rattle.lent.specs.Puts.{Puts, no-room}
 use Rattle.stream.specs.Stream.{reading}
 use Rattle.items.specs.Text.{headOf, lineOf}
 use Rattle.items.specs.Over.{head-aside, line-parts, head-put, bytes-put, line-put}

@@ -10,7 +10,7 @@ use Rattle.stream.specs.Stream.{numberOf, sizeOf}
 use Rattle.stream.specs.Lawful.{size-some}
 use Rattle.line.specs.Rule.{settle}
 use Rattle.line.specs.Laws.{lawful}
-use Rattle.items.specs.Over.{puts-length}
+use Rattle.lent.specs.Over.{puts-length}
 use Rattle.items.specs.Pour.{isReady}
 use Rattle.items.specs.Pouring.{Pouring, size-there, pouring-starts, pouring-length, stops-end, stops-waiting, stops-full, goes-on}
 use Rattle.items.proofs.pour.Statement.{statement}

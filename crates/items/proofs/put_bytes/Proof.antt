@@ -4,7 +4,7 @@ use lib.ListN.{length, take, length-set}
 use lib.Seq.{take-length}
 use native.Mathlib.Omega.{arith}
 use borrow.Author.Needs.{needs}
-use Rattle.text.specs.Puts.{over, over-none, room}
+use Rattle.lent.specs.Puts.{over, over-none, room}
 use Rattle.items.specs.Text.{hexes, hexes-length}
 use Rattle.items.specs.Over.{hex-turn}
 use Rattle.items.proofs.put_bytes.Statement.{statement}

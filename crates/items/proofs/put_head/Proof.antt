@@ -2,7 +2,7 @@ use Prim.Native.Nat.{_+_, _/_, _%_}
 use mathlib.Core.Path.{refl}
 use mathlib.Core.List.{[], _∷_}
 use native.Mathlib.Numerals.{add-one, add-two, add-three, add-four}
-use Rattle.text.specs.Puts.{stored}
+use Rattle.lent.specs.Puts.{stored}
 use Rattle.items.specs.Text.{blank, head-one, head-two}
 use lib.ListN.{length-set}
 use native.Mathlib.Omega.{arith}

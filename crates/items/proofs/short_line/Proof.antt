@@ -3,7 +3,7 @@ use mathlib.Core.Path.{_≡_, ap, _∙_}
 use lib.ListN.{length, length-set}
 use native.Mathlib.Omega.{arith}
 use borrow.Author.Needs.{needs}
-use Rattle.text.specs.Puts.{no-room}
+use Rattle.lent.specs.Puts.{no-room}
 use Rattle.stream.specs.Stream.{reading}
 use Rattle.items.specs.Text.{lineOf, line-short, decimal-some}
 use Rattle.items.specs.Over.{head-put, bytes-put, line-put}

@@ -6,7 +6,8 @@ use native.Mathlib.Omega.{arith}
 use borrow.Author.Needs.{needs}
 use Rattle.text.specs.Text.{decimalOf}
 use Rattle.text.specs.Decimal.{lastDigits, decimal-last}
-use Rattle.text.specs.Puts.{over, over-none, spell, no-room, room}
+use Rattle.lent.specs.Puts.{over, over-none, no-room, room}
+use Rattle.text.specs.Spell.{spell}
 use Rattle.text.proofs.decimal.Statement.{statement}
 use Rattle.text.proofs.decimal.Tie as tie
 

@@ -3,7 +3,7 @@ use lib.ListN.{length-set}
 use native.Mathlib.Numerals.{add-one}
 use native.Mathlib.Omega.{arith}
 use Rattle.text.specs.Text.{hexOf}
-use Rattle.text.specs.Puts.{no-room, stored}
+use Rattle.lent.specs.Puts.{no-room, stored}
 use borrow.Author.Needs.{needs}
 use Rattle.text.proofs.hex.Statement.{statement}
 use Rattle.text.proofs.hex.Tie as tie
@@ -17,11 +17,11 @@ sub-if2 c = search needs
 returns-2 : tie.Need-returns-2
 returns-2 c = no-room _ _ _ (omega arith)
 
-digit-requires : tie.Need-digit-requires
-digit-requires c κs = search needs
+high-digit-requires : tie.Need-high-digit-requires
+high-digit-requires c κs = search needs
 
-digit-requires-2 : tie.Need-digit-requires-2
-digit-requires-2 c κs = search needs
+low-digit-requires : tie.Need-low-digit-requires
+low-digit-requires c κs = search needs
 
 slice-write-out : tie.Need-slice-write-out
 slice-write-out c = search needs
@@ -41,7 +41,7 @@ same-length c = search needs
 returns-3 : tie.Need-returns-3
 returns-3 c =
     let a = c .before .before .before .before .before .args in
-    rw (c .before .digit .ensures, c .digit2 .ensures, add-one) (stored (hexOf (a .b)) (a .out .now) (a .at) _ (omega arith) refl)
+    rw (c .before .high-digit .ensures, c .low-digit .ensures, add-one) (stored (hexOf (a .b)) (a .out .now) (a .at) _ (omega arith) refl)
 
 pub hex-spec : {M : Type 1} → statement M
 hex-spec =
@@ -50,8 +50,8 @@ hex-spec =
     returns
     sub-if2
     returns-2
-    digit-requires
-    digit-requires-2
+    high-digit-requires
+    low-digit-requires
     slice-write-out
     add-out
     slice-write-out-2

@@ -5,9 +5,9 @@ use lib.ListN.{length, length-set}
 use lib.Seq.{paste, paste-zero, paste-suc, take-length}
 use native.Mathlib.Numerals.{add-one}
 use native.Mathlib.Omega.{arith}
-use Rattle.text.specs.Puts.{no-room, room}
-use Rattle.text.proofs.word.Statement.{statement}
-use Rattle.text.proofs.word.Tie as tie
+use Rattle.lent.specs.Puts.{no-room, room}
+use Rattle.lent.proofs.word.Statement.{statement}
+use Rattle.lent.proofs.word.Tie as tie
 
 abbrev Inv-loop : tie.InvT-loop
 Inv-loop out₀ at s n i₀ out i = (i ≤ length s) × (n ≡ length s) × (at + length s ≤ length out₀) × (length out ≡ length out₀) × (out ≡ paste out₀ at s i)

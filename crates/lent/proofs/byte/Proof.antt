@@ -1,10 +1,10 @@
 use mathlib.Core.Path.{refl}
 use mathlib.Core.List.{[], _∷_}
 use native.Mathlib.Omega.{arith}
-use Rattle.text.specs.Puts.{no-room, stored}
+use Rattle.lent.specs.Puts.{no-room, stored}
 use borrow.Author.Needs.{needs}
-use Rattle.text.proofs.byte.Statement.{statement}
-use Rattle.text.proofs.byte.Tie as tie
+use Rattle.lent.proofs.byte.Statement.{statement}
+use Rattle.lent.proofs.byte.Tie as tie
 
 returns : tie.Need-returns
 returns c = no-room _ _ _ (omega arith)

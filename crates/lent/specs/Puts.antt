@@ -1,17 +1,15 @@
--- Text in a lent buffer, from a place on.
-use Prim.Native.Nat.{ℕ, zero, suc, _+_, _-_, _/_, _%_, _≤_, _<_}
+-- A run of bytes (a text) in a lent buffer, from a place on. Document 01, "Refusals, by number": "no lent byte .. changes" where a call is
+-- refused, and "bytes after the frame stay".
+use Prim.Native.Nat.{ℕ, suc, _+_, _-_, _≤_, _<_}
 use mathlib.Core.Path.{_≡_, sym, ap, _∙_}
 use mathlib.Core.Bool.{Bool, true, false}
 use mathlib.Core.List.{List, [], _∷_, _++_, append-assoc}
 use lib.ListN.{length, take, drop, set, length-append}
 use lib.Seq.{sets, sets-eq, paste-zero, take-set-le, set-split, drop-at, length-take-le, append-snoc}
 use lib.Dec.{leb}
-use borrow.Author.Tests.{lt-ltb, le-leb, lt-leb}
-use native.Mathlib.Nat.{mod-lt}
+use borrow.Author.Tests.{le-leb, lt-leb}
 use native.Mathlib.Omega.{arith}
 use Rattle.refusal.specs.Test.{pick}
-use Rattle.text.specs.Text.{digit}
-use Rattle.text.specs.Decimal.{lastDigits, last-length}
 
 -- whether a text has room in a buffer from a place on
 abbrev pub fits : List ℕ → List ℕ → ℕ → Bool
@@ -29,7 +27,7 @@ placeAfter t out at = pick (fits t out at) (at + length t) at
 abbrev pub bufferAfter : List ℕ → List ℕ → ℕ → List ℕ
 bufferAfter t out at = pick (fits t out at) (over t out at) out
 
--- the contract of every function of this crate: the place that it answers, and every byte of the buffer
+-- the contract of every function that puts a text: the place that it answers, and every byte of the buffer
 pub record Puts (t out : List ℕ) (at r : ℕ) (out′ : List ℕ) : Type 0 where
   pub says : r ≡ placeAfter t out at
   pub leaves : out′ ≡ bufferAfter t out at
@@ -64,14 +62,3 @@ over-snoc t x out at h =
     let b : drop m (set out m x) ≡ x ∷ drop (suc m) out = ap (drop m) (set-split out m x h) ∙ drop-at (take m out) (x ∷ drop (suc m) out) m (length-take-le m out (omega arith)) in
     let l : at + length (t ++ (x ∷ [])) ≡ suc m = omega (arith, length-append t (x ∷ [])) in
     rw (a, b, l, ← append-assoc (take at out) t (x ∷ [])) (append-snoc (take at out ++ t) x (drop (suc m) out))
-
--- the last digit of a number stored, and then those of its tenth in front of it
-pub spell : (i n : ℕ) (out : List ℕ) (at : ℕ) → 0 < i → at + i ≤ length out
-    → over (lastDigits (i - 1) (n / 10)) (set out (at + (i - 1)) (48 + n % 10)) at ≡ over (lastDigits i n) out at
-unfolding lastDigits
-spell zero n out at h l = absurd (omega arith)
-spell (suc j) n out at h l =
-    let e : suc j - 1 ≡ j = omega arith in
-    let t : List ℕ = lastDigits j (n / 10) in
-    let p : set out (at + j) (48 + n % 10) ≡ set out (at + length t) (digit (n % 10)) = rw (last-length j (n / 10), lt-ltb (n % 10) 10 (mod-lt n (omega arith))) in
-    rw e (ap (λ (o : List ℕ). over t o at) p ∙ sym (over-snoc t (digit (n % 10)) out at (omega (arith, last-length j (n / 10)))))
