@@ -1,1 +1,5 @@
+-- what is claimed: on which words lines and datagrams agree, and that they do (to be read)
+pub mod Verdict
 pub mod Agreement
+-- what only serves proofs
+pub mod Framed

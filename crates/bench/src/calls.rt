@@ -1,404 +1,329 @@
-// The calls of the bench: their names, and the groups of bytes that each takes. docs/BENCH.md, in its order.
-use crate::words;
-use crate::words::Groups;
+// The calls of the bench, each an arm by its number in the table of crate bench_calls: its bytes are handed to the codec, and
+// its answer is said by the crate of its family. docs/BENCH.md, in its order.
+use bench_calls::Call;
+use bench_calls::Called;
+use bench_parts::Fit;
+use book::Book;
+use command::Shape;
+use event::EventType;
+use event::Mac;
+use frame::Wrote;
 use line::Line;
+use meaning::Arguments;
+use reader::Held;
+use request::Ipv4;
+use target::Device;
+use target::Group;
+use target::LineTarget;
 
-// What reads a datagram.
-pub enum Datagram {
-    Request,
-    Reply,
-    ReplyData,
-    ErrorCode,
-    Event,
-    EventData,
+// What the run carries from call to call.
+pub struct State {
+    book: Book,
+    request: Held,
+    reply: Held,
 }
 
-// What writes into a lent buffer.
-pub enum Writer {
-    Basic,
-    Unicast,
-    Reply,
-    Event,
-    Frame,
+// The state after a line, and the place behind the answer.
+pub struct Turn {
+    pub state: State,
+    pub at: usize,
 }
 
-pub enum Piece {
-    Sum,
-    Known,
-    Shape,
-    Fits,
-    ErrorName,
-    EventType,
-    GroupTarget,
-    Lights,
-    Status,
-    Device,
-    DeviceNumber,
+struct BookTurn {
+    book: Book,
+    at: usize,
 }
 
-pub enum Content {
-    HighFirst,
-    Mask,
-    CountTypes,
-    LowestType,
-    Scenes,
-    Gear,
-    CountGear,
-    LowestGear,
-    Types,
-    Filters,
-    Filter,
+struct LineTurn {
+    held: Held,
+    at: usize,
 }
 
-pub enum Page {
-    Fresh,
-    Set,
-    Ask,
-    Answer,
-    Show,
-}
-
-pub enum Verb {
-    Fresh,
-    Hold,
-    Feed,
-    Close,
-    Show,
-    Settle,
-}
-
-pub enum Call {
-    Datagram(Datagram),
-    Write(Writer),
-    Piece(Piece),
-    Content(Content),
-    Page(Page),
-    Line(Verb, Line),
-    Unknown,
-}
-
-// How many groups a call takes; how many bytes the first has, at least and at most; and how many the second has at most.
-// A third may have any.
-pub struct Rule {
-    count: usize,
-    least: usize,
-    most: usize,
-    second: usize,
-}
-
-// More bytes than a line can name.
-const ANY: usize = 4096;
-
-fn sized(count: usize, size: usize) -> Rule {
-    Rule {
-        count,
-        least: size,
-        most: size,
-        second: ANY,
+pub fn fresh() -> State {
+    State {
+        book: book::fresh(),
+        request: reader::fresh(),
+        reply: reader::fresh(),
     }
 }
 
-fn any(count: usize) -> Rule {
-    Rule {
-        count,
-        least: 0,
-        most: ANY,
-        second: ANY,
+// An answer that leaves the state.
+pub fn said(state: State, at: usize) -> Turn {
+    Turn { state, at }
+}
+
+// What writes into a lent buffer: head is the first group of the call, data its second where it has three.
+fn write(n: usize, head: &[u8], data: &[u8], buffer: &mut [u8]) -> Wrote {
+    let a = bench_words::byte_at(head, 0);
+    let b = bench_words::byte_at(head, 1);
+    let c = bench_words::byte_at(head, 2);
+    let d = bench_words::byte_at(head, 3);
+    let e = bench_words::byte_at(head, 4);
+    let f = bench_words::byte_at(head, 5);
+    match n {
+        0x11 => {
+            let arguments = Arguments {
+                a: c,
+                b: d,
+                c: e,
+                d: f,
+            };
+            request::write_basic(a, b, arguments, buffer)
+        }
+        0x12 => {
+            let port = bench_words::wide16(bench_words::part(head, 1, 3));
+            let address = Ipv4(d, e, f, bench_words::byte_at(head, 6));
+            request::write_unicast(a, port, address, buffer)
+        }
+        0x16 => reply::write(a, b, data, buffer),
+        0x19 => {
+            let target = bench_words::wide32(bench_words::part(head, 6, 10));
+            let kind = bench_words::byte_at(head, 10);
+            event::write(Mac(a, b, c, d, e, f), target, kind, data, buffer)
+        }
+        _ => frame::write(head, data, buffer),
     }
 }
 
-fn bounded(size: usize, second: usize) -> Rule {
-    Rule {
-        count: 2,
-        least: size,
-        most: size,
-        second,
+// A writing call: the buffer, which is shown before and after, is the last group.
+fn wrote(
+    n: usize,
+    head: &[u8],
+    data: &[u8],
+    before: &[u8],
+    buffer: &mut [u8],
+    out: &mut [u8],
+    at: usize,
+) -> usize {
+    let e = lent::word(buffer, 0, before);
+    if buffer.len() < e {
+        return at;
+    }
+    let w = write(n, head, data, &mut buffer[..e]);
+    bench_datagrams::wrote(out, at, w, before, bench_words::part(buffer, 0, e))
+}
+
+fn datagram(n: usize, s: &[u8], out: &mut [u8], at: usize) -> usize {
+    match n {
+        0x10 => bench_requests::reading(out, at, request::read(s)),
+        0x13 => bench_datagrams::reply(out, at, reply::read(s)),
+        0x14 => bench_say::run(out, at, b"0 data", reply::data(s)),
+        0x15 => bench_datagrams::code(out, at, reply::error_code(s)),
+        0x17 => bench_datagrams::event(out, at, event::read(s)),
+        _ => bench_say::run(out, at, b"0 data", event::data(s)),
     }
 }
 
-// Whether a line has as many groups as the rule says.
-pub fn counts(r: Rule, g: Groups) -> bool {
-    r.count == g.count
+fn fit(s: &[u8]) -> Fit {
+    let a = bench_words::byte_at(s, 1);
+    let b = bench_words::byte_at(s, 2);
+    let c = bench_words::byte_at(s, 3);
+    let d = bench_words::byte_at(s, 4);
+    let shape = command::shape_of(bench_words::byte_at(s, 0));
+    match shape {
+        Shape::Basic(rule) => {
+            if command::fits(rule, a, b, c, d) {
+                Fit::Fits
+            } else {
+                Fit::Outside
+            }
+        }
+        Shape::Unknown => Fit::NoRule,
+        Shape::Unicast => Fit::NoRule,
+    }
 }
 
-// Whether its groups have the sizes that the rule says.
-pub fn fits(r: Rule, g: Groups) -> bool {
-    let a = g.a;
-    let b = g.b;
-    if a < r.least {
-        return false;
+fn part(n: usize, s: &[u8], out: &mut [u8], at: usize) -> usize {
+    let b = bench_words::byte_at(s, 0);
+    match n {
+        0x20 => bench_say::byte(out, at, b"0 sum ", sum::xor(s)),
+        0x22 => bench_parts::known(out, at, command::known(b)),
+        0x23 => bench_parts::shape(out, at, command::shape_of(b)),
+        0x24 => bench_parts::fits(out, at, fit(s)),
+        0x25 => bench_parts::name(out, at, error::name_of(b)),
+        0x26 => {
+            let e = lent::byte(out, at, b'0');
+            bench_datagrams::kind(out, e, EventType::of(b))
+        }
+        0x27 => bench_parts::on_line(out, at, Group(b).line_target()),
+        0x28 => {
+            let e = lent::byte(out, at, b'0');
+            bench_requests::lights(out, e, LineTarget(b).lights())
+        }
+        0x29 => {
+            let e = lent::byte(out, at, b'0');
+            bench_requests::lights(out, e, LineTarget(b).status())
+        }
+        0x2A => bench_parts::device(out, at, Device::of(b)),
+        _ => bench_parts::number(out, at, Device(b).number()),
     }
-    if r.most < a {
-        return false;
-    }
-    if b < a {
-        return false;
-    }
-    b - a <= r.second
 }
 
-fn datagram_named(name: &[u8]) -> Call {
-    if words::same(name, b"request") {
-        return Call::Datagram(Datagram::Request);
+fn data(n: usize, s: &[u8], t: &[u8], out: &mut [u8], at: usize) -> usize {
+    let mask = bench_words::wide16(s);
+    let map = bench_words::wide64(s);
+    match n {
+        0x30 => {
+            let number = order::high_first(bench_words::byte_at(s, 0), bench_words::byte_at(s, 1));
+            bench_say::middle(out, at, b"0 number ", number)
+        }
+        0x31 => bench_maps::bits16(out, at, maps::mask(s)),
+        0x32 => bench_say::wide(out, at, b"0 count ", maps::count_types(mask)),
+        0x33 => bench_maps::lowest(out, at, maps::lowest_type(mask)),
+        0x34 => bench_maps::bits16(out, at, maps::scenes(s)),
+        0x35 => bench_maps::bits64(out, at, maps::gear(s)),
+        0x36 => bench_say::wide(out, at, b"0 count ", maps::count_gear(map)),
+        0x37 => bench_maps::lowest(out, at, maps::lowest_gear(map)),
+        0x38 => bench_maps::bits32(out, at, maps::types(s)),
+        0x39 => bench_maps::filters(out, at, filters::read(s)),
+        _ => bench_maps::entry(out, at, filters::entry(t, map as usize)),
     }
-    if words::same(name, b"write_basic") {
-        return Call::Write(Writer::Basic);
-    }
-    if words::same(name, b"write_unicast") {
-        return Call::Write(Writer::Unicast);
-    }
-    if words::same(name, b"reply") {
-        return Call::Datagram(Datagram::Reply);
-    }
-    if words::same(name, b"reply_data") {
-        return Call::Datagram(Datagram::ReplyData);
-    }
-    if words::same(name, b"error_code") {
-        return Call::Datagram(Datagram::ErrorCode);
-    }
-    if words::same(name, b"write_reply") {
-        return Call::Write(Writer::Reply);
-    }
-    if words::same(name, b"event") {
-        return Call::Datagram(Datagram::Event);
-    }
-    if words::same(name, b"event_data") {
-        return Call::Datagram(Datagram::EventData);
-    }
-    if words::same(name, b"write_event") {
-        return Call::Write(Writer::Event);
-    }
-    piece_named(name)
 }
 
-fn piece_named(name: &[u8]) -> Call {
-    if words::same(name, b"sum") {
-        return Call::Piece(Piece::Sum);
+fn page(n: usize, b: Book, s: &[u8], t: &[u8], out: &mut [u8], at: usize) -> BookTurn {
+    let first = bench_words::byte_at(s, 0);
+    match n {
+        0x40 => BookTurn {
+            book: book::fresh(),
+            at: lent::byte(out, at, b'0'),
+        },
+        0x41 => BookTurn {
+            book: bench_book::handed(first, t),
+            at: lent::byte(out, at, b'0'),
+        },
+        0x42 => {
+            let a = book::ask(b, first);
+            let answer = a.answer;
+            let book = a.book;
+            BookTurn {
+                book,
+                at: bench_book::number(out, at, answer),
+            }
+        }
+        0x43 => {
+            let a = book::reply(b, first);
+            let answer = a.answer;
+            let book = a.book;
+            BookTurn {
+                book,
+                at: bench_book::command(out, at, answer),
+            }
+        }
+        _ => BookTurn {
+            book: b,
+            at: bench_book::show(out, at, b),
+        },
     }
-    if words::same(name, b"frame") {
-        return Call::Write(Writer::Frame);
-    }
-    if words::same(name, b"known") {
-        return Call::Piece(Piece::Known);
-    }
-    if words::same(name, b"shape") {
-        return Call::Piece(Piece::Shape);
-    }
-    if words::same(name, b"fits") {
-        return Call::Piece(Piece::Fits);
-    }
-    if words::same(name, b"error_name") {
-        return Call::Piece(Piece::ErrorName);
-    }
-    if words::same(name, b"event_type") {
-        return Call::Piece(Piece::EventType);
-    }
-    target_named(name)
 }
 
-fn target_named(name: &[u8]) -> Call {
-    if words::same(name, b"group_target") {
-        return Call::Piece(Piece::GroupTarget);
+// A call of a line, by the second digit of its number.
+fn line(n: usize, l: Line, h: Held, s: &[u8], t: &[u8], out: &mut [u8], at: usize) -> LineTurn {
+    match n {
+        0 => LineTurn {
+            held: reader::fresh(),
+            at: lent::byte(out, at, b'0'),
+        },
+        1 => LineTurn {
+            held: bench_lines::handed(bench_words::wide64(s) as usize, t),
+            at: lent::byte(out, at, b'0'),
+        },
+        2 => {
+            let f = reader::feed(l, h, s);
+            let held = f.held;
+            LineTurn {
+                held,
+                at: bench_lines::fed(out, at, f),
+            }
+        }
+        3 => {
+            let f = reader::close(l, h);
+            let held = f.held;
+            LineTurn {
+                held,
+                at: bench_lines::closed(out, at, f),
+            }
+        }
+        4 => LineTurn {
+            held: h,
+            at: bench_lines::show(out, at, h),
+        },
+        _ => LineTurn {
+            held: h,
+            at: bench_lines::step(out, at, line::settled(l, s)),
+        },
     }
-    if words::same(name, b"lights") {
-        return Call::Piece(Piece::Lights);
-    }
-    if words::same(name, b"status") {
-        return Call::Piece(Piece::Status);
-    }
-    if words::same(name, b"device") {
-        return Call::Piece(Piece::Device);
-    }
-    if words::same(name, b"device_number") {
-        return Call::Piece(Piece::DeviceNumber);
-    }
-    content_named(name)
 }
 
-fn content_named(name: &[u8]) -> Call {
-    if words::same(name, b"high_first") {
-        return Call::Content(Content::HighFirst);
-    }
-    if words::same(name, b"mask") {
-        return Call::Content(Content::Mask);
-    }
-    if words::same(name, b"count_types") {
-        return Call::Content(Content::CountTypes);
-    }
-    if words::same(name, b"lowest_type") {
-        return Call::Content(Content::LowestType);
-    }
-    if words::same(name, b"scenes") {
-        return Call::Content(Content::Scenes);
-    }
-    if words::same(name, b"gear") {
-        return Call::Content(Content::Gear);
-    }
-    if words::same(name, b"count_gear") {
-        return Call::Content(Content::CountGear);
-    }
-    if words::same(name, b"lowest_gear") {
-        return Call::Content(Content::LowestGear);
-    }
-    if words::same(name, b"types") {
-        return Call::Content(Content::Types);
-    }
-    if words::same(name, b"filters") {
-        return Call::Content(Content::Filters);
-    }
-    if words::same(name, b"filter") {
-        return Call::Content(Content::Filter);
-    }
-    page_named(name)
-}
-
-fn page_named(name: &[u8]) -> Call {
-    if words::same(name, b"book_fresh") {
-        return Call::Page(Page::Fresh);
-    }
-    if words::same(name, b"book_set") {
-        return Call::Page(Page::Set);
-    }
-    if words::same(name, b"ask") {
-        return Call::Page(Page::Ask);
-    }
-    if words::same(name, b"answer") {
-        return Call::Page(Page::Answer);
-    }
-    if words::same(name, b"book_show") {
-        return Call::Page(Page::Show);
-    }
-    line_named(name)
-}
-
-// A call of a line: a verb, and behind it the line.
-fn line_named(name: &[u8]) -> Call {
-    let n = name.len();
-    if 8 <= n {
-        let m = n - 8;
-        if words::same(words::part(name, m, n), b"_request") {
-            return verb_named(words::part(name, 0, m), Line::Request);
+// A call, by its family, the first digit of its number.
+fn made(c: Call, state: State, bytes: &[u8], buffer: &mut [u8], out: &mut [u8], at: usize) -> Turn {
+    let n = c.number;
+    let g = c.groups;
+    let s = bench_words::part(bytes, 0, g.a);
+    let t = bench_words::part(bytes, g.a, g.b);
+    let u = bench_words::part(bytes, g.b, g.c);
+    let b = state.book;
+    let q = state.request;
+    let r = state.reply;
+    match n {
+        0x11 | 0x12 => said(state, wrote(n, s, b"", t, buffer, out, at)),
+        0x16 | 0x19 | 0x21 => said(state, wrote(n, s, t, u, buffer, out, at)),
+        0x10..=0x1F => said(state, datagram(n, s, out, at)),
+        0x20..=0x2F => said(state, part(n, s, out, at)),
+        0x30..=0x3F => said(state, data(n, s, t, out, at)),
+        0x40..=0x4F => {
+            let p = page(n, b, s, t, out, at);
+            let book = p.book;
+            Turn {
+                state: State {
+                    book,
+                    request: q,
+                    reply: r,
+                },
+                at: p.at,
+            }
+        }
+        0x50..=0x5F => {
+            let p = line(n % 16, Line::Request, q, s, t, out, at);
+            let request = p.held;
+            Turn {
+                state: State {
+                    book: b,
+                    request,
+                    reply: r,
+                },
+                at: p.at,
+            }
+        }
+        _ => {
+            let p = line(n % 16, Line::Reply, r, s, t, out, at);
+            let reply = p.held;
+            Turn {
+                state: State {
+                    book: b,
+                    request: q,
+                    reply,
+                },
+                at: p.at,
+            }
         }
     }
-    if 6 <= n {
-        let m = n - 6;
-        if words::same(words::part(name, m, n), b"_reply") {
-            return verb_named(words::part(name, 0, m), Line::Reply);
-        }
-    }
-    Call::Unknown
 }
 
-fn verb_named(name: &[u8], line: Line) -> Call {
-    if words::same(name, b"fresh") {
-        return Call::Line(Verb::Fresh, line);
-    }
-    if words::same(name, b"hold") {
-        return Call::Line(Verb::Hold, line);
-    }
-    if words::same(name, b"feed") {
-        return Call::Line(Verb::Feed, line);
-    }
-    if words::same(name, b"close") {
-        return Call::Line(Verb::Close, line);
-    }
-    if words::same(name, b"show") {
-        return Call::Line(Verb::Show, line);
-    }
-    if words::same(name, b"settle") {
-        return Call::Line(Verb::Settle, line);
-    }
-    Call::Unknown
-}
-
-// The call that a name names.
-pub fn named(name: &[u8]) -> Call {
-    datagram_named(name)
-}
-
-fn of_datagram(d: Datagram) -> Rule {
-    match d {
-        Datagram::Request => any(1),
-        Datagram::Reply => any(1),
-        Datagram::ReplyData => any(1),
-        Datagram::ErrorCode => any(1),
-        Datagram::Event => any(1),
-        Datagram::EventData => any(1),
-    }
-}
-
-fn of_writer(w: Writer) -> Rule {
-    match w {
-        Writer::Basic => sized(2, 6),
-        Writer::Unicast => sized(2, 7),
-        Writer::Reply => sized(3, 2),
-        Writer::Event => sized(3, 11),
-        Writer::Frame => any(3),
-    }
-}
-
-fn of_piece(p: Piece) -> Rule {
-    match p {
-        Piece::Sum => any(1),
-        Piece::Known => sized(1, 1),
-        Piece::Shape => sized(1, 1),
-        Piece::Fits => sized(1, 5),
-        Piece::ErrorName => sized(1, 1),
-        Piece::EventType => sized(1, 1),
-        Piece::GroupTarget => sized(1, 1),
-        Piece::Lights => sized(1, 1),
-        Piece::Status => sized(1, 1),
-        Piece::Device => sized(1, 1),
-        Piece::DeviceNumber => sized(1, 1),
-    }
-}
-
-fn of_content(c: Content) -> Rule {
+// The answer to a line with a word in it.
+pub fn answer(
+    state: State,
+    line: &[u8],
+    bytes: &mut [u8],
+    buffer: &mut [u8],
+    out: &mut [u8],
+    at: usize,
+) -> Turn {
+    let c = bench_calls::read(line, bytes);
     match c {
-        Content::HighFirst => sized(1, 2),
-        Content::Mask => any(1),
-        Content::CountTypes => sized(1, 2),
-        Content::LowestType => sized(1, 2),
-        Content::Scenes => any(1),
-        Content::Gear => any(1),
-        Content::CountGear => sized(1, 8),
-        Content::LowestGear => sized(1, 8),
-        Content::Types => any(1),
-        Content::Filters => any(1),
-        Content::Filter => sized(2, 8),
-    }
-}
-
-fn of_page(p: Page) -> Rule {
-    match p {
-        Page::Fresh => sized(1, 0),
-        Page::Set => bounded(1, 256),
-        Page::Ask => sized(1, 1),
-        Page::Answer => sized(1, 1),
-        Page::Show => sized(1, 0),
-    }
-}
-
-fn of_verb(v: Verb) -> Rule {
-    match v {
-        Verb::Fresh => sized(1, 0),
-        Verb::Hold => bounded(8, 67),
-        Verb::Feed => any(1),
-        Verb::Close => sized(1, 0),
-        Verb::Show => sized(1, 0),
-        Verb::Settle => any(1),
-    }
-}
-
-// The groups that a call takes.
-pub fn rule_of(call: Call) -> Rule {
-    match call {
-        Call::Datagram(d) => of_datagram(d),
-        Call::Write(w) => of_writer(w),
-        Call::Piece(p) => of_piece(p),
-        Call::Content(c) => of_content(c),
-        Call::Page(p) => of_page(p),
-        Call::Line(v, _) => of_verb(v),
-        Call::Unknown => any(1),
+        Called::Call(call) => made(call, state, bytes, buffer, out, at),
+        Called::NoSuchCall | Called::NotAByte | Called::WrongGroups | Called::WrongBytes => said(
+            state,
+            bench_calls::refused(out, at, c),
+        ),
     }
 }

@@ -1,19 +1,13 @@
 // The bench: reads calls from standard input to its end, one to a line, and writes one answer to a line. docs/BENCH.md is
-// the protocol. A book, a reader of the request line and one of the reply line are carried by the run.
-mod answers;
+// the protocol. What a line says and how an answer reads is the business of the crates bench_..; here lines are cut out of
+// the input, calls are made (calls.rt), and answers are written out. A book, a reader of the request line and one of the
+// reply line are carried by the run.
 mod calls;
-mod contents;
-mod datagrams;
-mod lines;
-mod pages;
-mod pieces;
-mod say;
-mod words;
-mod writers;
 
 ghost use Prim.Native.Nat.{_≤_};
 ghost use lib.ListN.{length};
-use answers::State;
+use calls::State;
+use libc::STDERR_FILENO;
 use libc::STDIN_FILENO;
 use libc::STDOUT_FILENO;
 
@@ -24,13 +18,16 @@ const LONGEST: usize = 4095;
 // buffer of a third of a line before and after.
 const FULL: usize = 32768;
 
-// What is carried from piece to piece of the input: the state of the calls; how many bytes of a line are held, and whether
-// a word was among all that the line has had; and how far the output buffer is filled.
+// What is carried from piece to piece of the input: the state of the calls; how many bytes of a line are held, whether there
+// was no room for more of them, and whether a word was among all that the line has had; how far the output buffer is filled;
+// and whether it was written out without failure whenever it was full.
 struct Run {
     state: State,
     len: usize,
+    long: bool,
     word: bool,
     at: usize,
+    written: bool,
 }
 
 // What a reading of the input leaves, and whether more may come.
@@ -39,117 +36,96 @@ struct Next {
     more: bool,
 }
 
-// The first line feed of a piece from a place on, or the piece's end.
-fn line_end(s: &[u8], from: usize) -> usize
-    requires { ⌜ from ≤ length (now s) ⌝ }
-    ensures { λ r. ⌜ (from ≤ r) × (r ≤ length (now (s .entry))) ⌝ }
-{
-    let mut i = from;
-    while i < s.len() {
-        if s[i] == b'\n' {
-            return i;
-        }
-        i += 1;
-    }
-    i
-}
-
-// Whether a run has a byte that is no blank.
-fn has_word(s: &[u8]) -> bool {
-    words::name_start(s) < s.len()
-}
-
-// Puts bytes of a line behind those that are held, as far as there is room: a line one byte too long is held so far.
-fn held(line: &mut [u8], len: usize, s: &[u8]) -> usize {
-    let mut n = len;
-    let mut i: usize = 0;
-    while i < s.len() {
-        if line.len() <= n {
-            return n;
-        }
-        line[n] = s[i];
-        n += 1;
-        i += 1;
-    }
-    n
-}
-
-// Writes what the output buffer holds.
-fn flush(out: &[u8], at: usize) {
-    io::write_all(STDOUT_FILENO, words::part(out, 0, at));
-}
-
-// Bytes of a line that has begun.
+// Bytes of a line that has begun, put behind those that are held.
 fn begun(r: Run, s: &[u8], line: &mut [u8]) -> Run {
-    let len = held(line, r.len, s);
-    let word = r.word | has_word(s);
+    let before = r.len;
+    let len = lent::word(line, before, s);
+    let full = (len == before) & (0 < s.len());
+    let word = r.word | (bench_words::first(s) < s.len());
     let state = r.state;
     Run {
         state,
         len,
+        long: r.long | full | (LONGEST < len),
         word,
         at: r.at,
+        written: r.written,
     }
 }
 
+// The answer to a line, without its line feed.
 fn answered(
-    state: State,
-    word: bool,
+    r: Run,
     line: &[u8],
     bytes: &mut [u8],
-    lent: &mut [u8],
+    buffer: &mut [u8],
     out: &mut [u8],
-    at: usize,
-) -> answers::Turn {
-    if !word {
-        return answers::Turn { state, at };
+) -> calls::Turn {
+    let before = r.state;
+    if !r.word {
+        return calls::said(before, r.at);
     }
-    if LONGEST < line.len() {
-        return answers::Turn {
-            state,
-            at: lent::word(out, at, b"? line too long"),
-        };
+    if r.long {
+        return calls::said(before, bench_say::word(out, r.at, b"? line too long"));
     }
-    answers::answer(state, line, bytes, lent, out, at)
+    let whole = bench_words::part(line, 0, r.len);
+    calls::answer(before, whole, bytes, buffer, out, r.at)
 }
 
 // The end of a line: its answer, with a line feed behind it.
-fn ended(r: Run, line: &[u8], bytes: &mut [u8], lent: &mut [u8], out: &mut [u8]) -> Run {
-    let before = r.state;
-    let whole = words::part(line, 0, r.len);
-    let t = answered(before, r.word, whole, bytes, lent, out, r.at);
+fn ended(r: Run, line: &[u8], bytes: &mut [u8], buffer: &mut [u8], out: &mut [u8]) -> Run {
+    let t = answered(r, line, bytes, buffer, out);
     let state = t.state;
     let at = lent::byte(out, t.at, b'\n');
     if FULL <= at {
-        flush(out, at);
         return Run {
             state,
             len: 0,
+            long: false,
             word: false,
             at: 0,
+            written: flush(out, at),
         };
     }
     Run {
         state,
         len: 0,
+        long: false,
         word: false,
         at,
+        written: true,
     }
 }
 
-// Bytes of a line, with its end or without it.
+// Writes what the output buffer holds; whether that went well.
+fn flush(out: &[u8], at: usize) -> bool {
+    io::write_all(STDOUT_FILENO, bench_words::part(out, 0, at))
+}
+
+// The first line feed of a piece from a place on, or the piece's end.
+fn line_end(s: &[u8], from: usize) -> usize
+    requires { ⌜ from ≤ length (now s) ⌝ }
+    ensures { λ r. ⌜ (from ≤ r) × (r ≤ length (now (s .entry))) ⌝ }
+{
+    bench_words::until(s, from, b'\n')
+}
+
+// Bytes of a line, with its end or without it. Nothing is answered behind a failed writing.
 fn taken(
     run: Run,
     s: &[u8],
     whole: bool,
     line: &mut [u8],
     bytes: &mut [u8],
-    lent: &mut [u8],
+    buffer: &mut [u8],
     out: &mut [u8],
 ) -> Run {
+    if !run.written {
+        return run;
+    }
     let r = begun(run, s, line);
     if whole {
-        return ended(r, line, bytes, lent, out);
+        return ended(r, line, bytes, buffer, out);
     }
     r
 }
@@ -160,7 +136,7 @@ fn piece(
     s: &[u8],
     line: &mut [u8],
     bytes: &mut [u8],
-    lent: &mut [u8],
+    buffer: &mut [u8],
     out: &mut [u8],
 ) -> Run {
     let mut r = run;
@@ -168,57 +144,122 @@ fn piece(
     while i < s.len() {
         let e = line_end(s, i);
         let next = e + 1;
-        r = taken(r, &s[i..e], e < s.len(), line, bytes, lent, out);
+        r = taken(r, &s[i..e], e < s.len(), line, bytes, buffer, out);
         i = next;
     }
     r
 }
 
 // The end of the input ends a line that has begun.
-fn finish(run: Run, line: &[u8], bytes: &mut [u8], lent: &mut [u8], out: &mut [u8]) {
-    if run.len == 0 {
-        flush(out, run.at);
-        return;
+fn finish(run: Run, line: &[u8], bytes: &mut [u8], buffer: &mut [u8], out: &mut [u8]) -> bool {
+    if (run.len == 0) & !run.long {
+        return flush(out, run.at);
     }
-    let r = ended(run, line, bytes, lent, out);
-    flush(out, r.at);
+    let r = ended(run, line, bytes, buffer, out);
+    r.written & flush(out, r.at)
 }
 
-// One reading of the input: a piece of it, or its end.
+// What went wrong, on standard error. Nothing more is read.
+fn stopped(run: Run, written: bool) -> Next {
+    if !written {
+        io::write_all(STDERR_FILENO, b"bench: writing standard output failed\n");
+    }
+    Next { run, more: false }
+}
+
+// Where no bytes came: the end of the input, or a failed reading, which is no end: the line that has begun is not answered.
+fn over(
+    r: Run,
+    failed: bool,
+    line: &[u8],
+    bytes: &mut [u8],
+    buffer: &mut [u8],
+    out: &mut [u8],
+) -> Next {
+    if failed {
+        io::write_all(STDERR_FILENO, b"bench: reading standard input failed\n");
+        return stopped(r, true);
+    }
+    let written = finish(r, line, bytes, buffer, out);
+    stopped(r, written)
+}
+
+// Where bytes came: more may come, unless a writing failed.
+fn came(
+    run: Run,
+    s: &[u8],
+    line: &mut [u8],
+    bytes: &mut [u8],
+    buffer: &mut [u8],
+    out: &mut [u8],
+) -> Next {
+    let r = piece(run, s, line, bytes, buffer, out);
+    if !r.written {
+        return stopped(r, false);
+    }
+    Next { run: r, more: true }
+}
+
+// One reading of the input.
+fn reading(
+    r: Run,
+    input: &mut [u8],
+    line: &mut [u8],
+    bytes: &mut [u8],
+    buffer: &mut [u8],
+    out: &mut [u8],
+) -> Next {
+    let got = libc::read(STDIN_FILENO, input);
+    if got <= 0 {
+        return over(r, got < 0, line, bytes, buffer, out);
+    }
+    let n = io::count(got, input);
+    came(r, &input[..n], line, bytes, buffer, out)
+}
+
+// All that was answered is written out before the input is read again.
 fn read_once(
     r: Run,
     input: &mut [u8],
     line: &mut [u8],
     bytes: &mut [u8],
-    lent: &mut [u8],
+    buffer: &mut [u8],
     out: &mut [u8],
 ) -> Next {
-    let got = libc::read(STDIN_FILENO, input);
-    if got <= 0 {
-        finish(r, line, bytes, lent, out);
-        return Next {
-            run: r,
-            more: false,
-        };
+    if !flush(out, r.at) {
+        return stopped(r, false);
     }
-    let n = io::count(got, input);
-    Next {
-        run: piece(r, &input[..n], line, bytes, lent, out),
-        more: true,
-    }
+    let state = r.state;
+    let run = Run {
+        state,
+        len: r.len,
+        long: r.long,
+        word: r.word,
+        at: 0,
+        written: true,
+    };
+    reading(run, input, line, bytes, buffer, out)
 }
 
 // Reads to the end of the input. Nothing says that it ends, so the readings are counted.
-fn read_all(input: &mut [u8], line: &mut [u8], bytes: &mut [u8], lent: &mut [u8], out: &mut [u8]) {
+fn read_all(
+    input: &mut [u8],
+    line: &mut [u8],
+    bytes: &mut [u8],
+    buffer: &mut [u8],
+    out: &mut [u8],
+) {
     let mut r = Run {
-        state: answers::fresh(),
+        state: calls::fresh(),
         len: 0,
+        long: false,
         word: false,
         at: 0,
+        written: true,
     };
     let mut left = u64::MAX;
     while 0 < left {
-        let next = read_once(r, input, line, bytes, lent, out);
+        let next = read_once(r, input, line, bytes, buffer, out);
         if !next.more {
             return;
         }
@@ -232,7 +273,7 @@ fn main() {
     let mut input = io::large_buffer();
     let mut line = io::buffer();
     let mut bytes = io::buffer();
-    let mut lent = io::buffer();
+    let mut buffer = io::buffer();
     let mut out = io::large_buffer();
-    read_all(&mut input, &mut line, &mut bytes, &mut lent, &mut out);
+    read_all(&mut input, &mut line, &mut bytes, &mut buffer, &mut out);
 }

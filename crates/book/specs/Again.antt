@@ -11,12 +11,12 @@ use native.Mathlib.Decide.{ℕ-discrete}
 use native.Mathlib.Omega.{arith}
 use Rattle.refusal.specs.Test.{not-both}
 use Rattle.refusal.specs.Answer.{Answer, refused, full}
-use Rattle.command.specs.Command.{isKnown}
+use Rattle.command.specs.Command.{isKnown, mayAsk}
 use Rattle.book.specs.declared.Book.{Book}
-use Rattle.book.specs.Book.{nothing, entry, holds, numberFor, noted, commandOf, freed}
+use Rattle.book.specs.Book.{vacant, entry, holds, numberFor, noted, commandOf, freed}
 use Rattle.book.specs.Search.{search-here, between, number-full, command-full}
 use Rattle.book.specs.Run.{Call, ask, reply, answer, after, run, Line, line, history, bookOf, historyOf, Awaited, givenIn}
-use Rattle.book.specs.Sound.{nothing-free, fresh-entry, held-below, run-sound}
+use Rattle.book.specs.Sound.{vacant-free, fresh-entry, held-below, run-sound}
 use Rattle.book.specs.Awaited.{free-unawaited}
 
 -- where m is given before n has its turn, fewer numbers lie between m and n than did
@@ -31,7 +31,8 @@ record Waits (l n : ℕ) (b : Book) (h : List Line) : Type 0 where
 
 -- a call gives it, or it waits on
 module _ (l n : ℕ) (hn : n < 256) (b : Book) (h : List Line) (w : Waits l n b h) where
-  step-ask : (c : ℕ) (v : Answer ℕ) → numberFor b c ≡ v → List·Memᴰ n (givenIn (line (ask c) v ∷ h)) ⊎ Waits l n (noted b c v) (line (ask c) v ∷ h)
+  step-ask : (c : ℕ) (v : Answer ℕ) → numberFor b c ≡ v
+      → List·Memᴰ n (givenIn (line (ask c) v ∷ h)) ⊎ Waits l n (noted b c v) (line (ask c) v ∷ h)
   step-ask c (refused k) e = inr (record { latest = w .latest; free = w .free; turn = w .turn })
   step-ask c (full m) e = elim (ℕ-discrete n m) [ yes q ↦ inl (List·Memᴰ·head q) | no q ↦ inr (on q) ]
     where
@@ -40,7 +41,7 @@ module _ (l n : ℕ) (hn : n < 256) (b : Book) (h : List Line) (w : Waits l n b 
           let f = number-full b c (w .latest) m e .1 in
           record {
             latest = f .below;
-            free = ap isKnown (getD-set-other (b .asked) m n c nothing q) ∙ w .free;
+            free = ap isKnown (getD-set-other (b .asked) m n c vacant q) ∙ w .free;
             turn = omega (arith, w .turn, nearer (b .last) m n (w .latest) (f .below) hn q (f .first n hn (w .free)));
           }
 
@@ -49,7 +50,7 @@ module _ (l n : ℕ) (hn : n < 256) (b : Book) (h : List Line) (w : Waits l n b 
   step-reply m (full c) e =
       let k = command-full b m c .0 e in
       let q : n ≡ m → ⊥ = λ q. not-both (ap isKnown (ap (entry (b .asked)) q ∙ k .1) ∙ k .0) (w .free) in
-      record { latest = w .latest; free = ap isKnown (getD-set-other (b .asked) m n nothing nothing q) ∙ w .free; turn = w .turn }
+      record { latest = w .latest; free = ap isKnown (getD-set-other (b .asked) m n vacant vacant q) ∙ w .free; turn = w .turn }
 
   step : (x : Call) → List·Memᴰ n (givenIn (line x (answer b x) ∷ h)) ⊎ Waits l n (after b x) (line x (answer b x) ∷ h)
   step (ask c) = step-ask c (numberFor b c) refl
@@ -70,7 +71,8 @@ module _ (b : Book) (n : ℕ) (hl : b .last < 256) (hn : n < 256) (free : holds 
       [ inl m ↦ inl (more (line x (answer (run b later) x)) (history b later) m) | inr w ↦ step (b .last) n hn (run b later) (history b later) w x ]
 
   -- it is among the numbers given as soon as these are more than lie between the last number and it
-  pub given-in-turn : (later : List Call) → between (b .last) n < length (givenIn (history b later)) → List·Memᴰ n (givenIn (history b later))
+  pub given-in-turn : (later : List Call) → between (b .last) n < length (givenIn (history b later))
+      → List·Memᴰ n (givenIn (history b later))
   given-in-turn later h = elim (waits later) [ inl m ↦ m | inr w ↦ absurd (omega (arith, w .turn)) ]
 
   -- so it is among any 256
@@ -82,7 +84,7 @@ pub unawaited-again : (past later : List Call) (n : ℕ) → n < 256 → ((c : �
     → 256 ≤ length (givenIn (history (bookOf past) later)) → List·Memᴰ n (givenIn (history (bookOf past) later))
 unawaited-again past later n hn free = given-again (bookOf past) n (run-sound past .latest) hn (free-unawaited past n .1 free) later
 
-freed-entry : (asked : List ℕ) (n : ℕ) → entry (set asked n nothing) n ≡ nothing
+freed-entry : (asked : List ℕ) (n : ℕ) → entry (set asked n vacant) n ≡ vacant
 freed-entry [] n = refl
 freed-entry (a ∷ asked) zero = refl
 freed-entry (a ∷ asked) (suc n) = freed-entry asked n
@@ -93,7 +95,7 @@ unfolding run
 freed-again past later n c e =
     let k = command-full (bookOf past) n c .0 e in
     let below : n < 256 = held-below (run-sound past) n (ap isKnown (k .1) ∙ k .0) in
-    let free : holds (bookOf (reply n ∷ past) .asked) n ≡ false = rw e (ap isKnown (freed-entry (bookOf past .asked) n) ∙ nothing-free) in
+    let free : holds (bookOf (reply n ∷ past) .asked) n ≡ false = rw e (ap isKnown (freed-entry (bookOf past .asked) n) ∙ vacant-free) in
     given-again (bookOf (reply n ∷ past)) n (run-sound (reply n ∷ past) .latest) below free later
 
 -- k - 1, .., 0
@@ -104,14 +106,14 @@ countdown (suc k) = k ∷ countdown k
 -- a fresh book after k asks
 record Begun (k : ℕ) (b : Book) : Type 0 where
   latest : b .last ≡ (k + 255) % 256
-  beyond : (t : ℕ) → k ≤ t → entry (b .asked) t ≡ nothing
+  beyond : (t : ℕ) → k ≤ t → entry (b .asked) t ≡ vacant
 
-module _ (c : ℕ) (known : isKnown c ≡ true) where
+module _ (c : ℕ) (may : mayAsk c ≡ true) where
   begun-gives : (k : ℕ) (b : Book) → k < 256 → Begun k b → numberFor b c ≡ full k
   unfolding numberFor
   begun-gives k b h s =
-      let free : not (holds (b .asked) k) ≡ true = ap (λ (e : ℕ). not (isKnown e)) (s .beyond k (omega arith)) ∙ ap not nothing-free in
-      rw known (sym (search-here (b .asked) (b .last) 256 k (holds (b .asked) k) (omega arith) (omega (arith, s .latest)) refl free))
+      let free : not (holds (b .asked) k) ≡ true = ap (λ (e : ℕ). not (isKnown e)) (s .beyond k (omega arith)) ∙ ap not vacant-free in
+      rw may (sym (search-here (b .asked) (b .last) 256 k (holds (b .asked) k) (omega arith) (omega (arith, s .latest)) refl free))
 
   begun : (k : ℕ) → k ≤ 256 → Begun k (bookOf (replicate k (ask c)))
   unfolding run
@@ -120,7 +122,7 @@ module _ (c : ℕ) (known : isKnown c ≡ true) where
       let b = bookOf (replicate k (ask c)) in
       let s : Begun k b = begun k (omega arith) in
       rw (begun-gives k b h s)
-      (record { latest = omega arith; beyond = λ t l. getD-set-other (b .asked) k t c nothing (omega arith) ∙ s .beyond t (omega arith) })
+      (record { latest = omega arith; beyond = λ t l. getD-set-other (b .asked) k t c vacant (omega arith) ∙ s .beyond t (omega arith) })
 
   -- no fewer than 256 would do: the first 255 asks of a fresh book are given 0 to 254, and 255 still waits
   pub given-first : (k : ℕ) → k ≤ 256 → givenIn (historyOf (replicate k (ask c))) ≡ countdown k

@@ -7,7 +7,7 @@ use mathlib.Core.List.{List}
 use mathlib.Core.Logic.{_↔_, Iff·rfl, Iff·trans, Iff·and}
 use Rattle.refusal.specs.Test.{not-both}
 use Rattle.refusal.specs.Answer.{refused, full}
-use Rattle.command.specs.Command.{isKnown}
+use Rattle.command.specs.Command.{isKnown, mayAsk}
 use Rattle.book.specs.Book.{entry, holds}
 use Rattle.book.specs.Search.{number-full, number-nine, command-full, command-ten}
 use Rattle.book.specs.Run.{Call, ask, reply, answer, bookOf, historyOf, Awaited}
@@ -51,9 +51,9 @@ module _ (past : List Call) where
   pub given-unawaited : (c n : ℕ) → answer (bookOf past) (ask c) ≡ full n → (d : ℕ) → Awaited n d (historyOf past) → ⊥
   given-unawaited c n e = free-unawaited n .0 (number-full (bookOf past) c (run-sound past .latest) n e .1 .free)
 
-  -- asking with a known command is refused exactly if all 256 numbers are awaited, and then with 9
-  pub ask-nine : (c k : ℕ) → isKnown c ≡ true
+  -- asking with a command that may be asked is refused exactly if all 256 numbers are awaited, and then with 9
+  pub ask-nine : (c k : ℕ) → mayAsk c ≡ true
       → (answer (bookOf past) (ask c) ≡ refused k) ↔ ((k ≡ 9) × ((n : ℕ) → n < 256 → (d : ℕ) × Awaited n d (historyOf past)))
-  ask-nine c k known =
-      Iff·trans (number-nine (bookOf past) c (run-sound past .latest) known k)
+  ask-nine c k may =
+      Iff·trans (number-nine (bookOf past) c (run-sound past .latest) may k)
       (Iff·and Iff·rfl ((λ h n l. held-awaited n (h n l)), λ h n l. awaited-held n (h n l .0) (h n l .1)))

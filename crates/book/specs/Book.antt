@@ -1,12 +1,12 @@
 -- Document 01, "The book of unanswered requests": what asking and replying answer, and the book afterwards.
 use Prim.Native.Nat.{ℕ, zero, suc, _+_, _%_}
-use mathlib.Core.Path.{_≡_, sym, _∙_}
+use mathlib.Core.Path.{_≡_}
 use mathlib.Core.Bool.{Bool}
 use mathlib.Core.List.{List}
 use lib.ListN.{getD, set, replicate}
 use Rattle.refusal.specs.Test.{pick}
 use Rattle.refusal.specs.Answer.{Answer, refused, full, demand}
-use Rattle.command.specs.Command.{isKnown}
+use Rattle.command.specs.Command.{isKnown, mayAsk}
 use Rattle.book.specs.declared.Book.{Book}
 use Rattle.book.specs.declared.Asked.{Asked}
 use Rattle.book.specs.declared.Replied.{Replied}
@@ -16,12 +16,12 @@ use Rattle.book.specs.declared.Freed.{Freed}
 use Rattle.book.specs.declared.Freed.the-variants.{Command, Refused as freed·Refused}
 
 -- what stands for nothing held
-abbrev pub nothing : ℕ
-nothing = 0
+abbrev pub vacant : ℕ
+vacant = 0
 
 -- "It holds, for each sequence number 0 to 255, nothing or the command asked."
 abbrev pub entry : List ℕ → ℕ → ℕ
-entry asked n = getD asked n nothing
+entry asked n = getD asked n vacant
 
 -- "an entry that is no known command counts as nothing held": a number is free where nothing is held under it, else awaited
 abbrev pub holds : List ℕ → ℕ → Bool
@@ -29,7 +29,7 @@ holds asked n = isKnown (entry asked n)
 
 -- "Fresh: nothing held, last number 255."
 abbrev pub freshBook : Book
-freshBook = record { asked = replicate 256 nothing; last = 255 }
+freshBook = record { asked = replicate 256 vacant; last = 255 }
 
 -- "counting past 255 to 0"
 abbrev pub next : ℕ → ℕ
@@ -41,9 +41,9 @@ firstFree asked n zero = refused 9
 firstFree asked n (suc k) = let later = firstFree asked (next n) k in pick (holds asked (next n)) later (full (next n))
 
 -- "Asking with a known command takes the first free number after the last one given, .. trying the last one itself at the end":
--- that is the 256th number after it
+-- that is the 256th number after it. Which commands may be asked is told by crate command
 unfoldable pub numberFor : Book → ℕ → Answer ℕ
-numberFor b c = demand (isKnown c) 3 (firstFree (b .asked) (b .last) 256)
+numberFor b c = demand (mayAsk c) 3 (firstFree (b .asked) (b .last) 256)
 
 -- "it becomes the last"; a refusal changes nothing
 abbrev pub noted : Book → ℕ → Answer ℕ → Book
@@ -57,7 +57,7 @@ commandOf b n = demand (holds (b .asked) n) 10 (full (entry (b .asked) n))
 -- and "frees it"; a refusal changes nothing
 abbrev pub freed : Book → ℕ → Answer ℕ → Book
 freed b n (refused k) = b
-freed b n (full c) = record { asked = set (b .asked) n nothing; last = b .last }
+freed b n (full c) = record { asked = set (b .asked) n vacant; last = b .last }
 
 -- document 01's number and values for each case of an answer
 abbrev pub saidGiven : Given → Answer ℕ
@@ -76,28 +76,3 @@ pub record Asks (b : Book) (c : ℕ) (r : Asked) : Type 0 where
 pub record Replies (b : Book) (n : ℕ) (r : Replied) : Type 0 where
   pub says : saidFreed (r .answer) ≡ commandOf b n
   pub leaves : r .book ≡ freed b n (commandOf b n)
-
--- they leave no choice
-pub given-one : (x y : Given) → saidGiven x ≡ saidGiven y → x ≡ y
-given-one (given·Refused j) (given·Refused k) e = cc
-given-one (given·Refused j) (Number n) e = cc
-given-one (Number m) (given·Refused k) e = cc
-given-one (Number m) (Number n) e = cc
-
-pub freed-one : (x y : Freed) → saidFreed x ≡ saidFreed y → x ≡ y
-freed-one (freed·Refused j) (freed·Refused k) e = cc
-freed-one (freed·Refused j) (Command d) e = cc
-freed-one (Command c) (freed·Refused k) e = cc
-freed-one (Command c) (Command d) e = cc
-
-pub asks-one : {b : Book} {c : ℕ} {r s : Asked} → Asks b c r → Asks b c s → r ≡ s
-asks-one {b} {c} {r} {s} x y =
-    let answer = given-one (r .answer) (s .answer) (x .says ∙ sym (y .says)) in
-    let book = x .leaves ∙ sym (y .leaves) in
-    λ i. record { answer = answer i; book = book i }
-
-pub replies-one : {b : Book} {n : ℕ} {r s : Replied} → Replies b n r → Replies b n s → r ≡ s
-replies-one {b} {n} {r} {s} x y =
-    let answer = freed-one (r .answer) (s .answer) (x .says ∙ sym (y .says)) in
-    let book = x .leaves ∙ sym (y .leaves) in
-    λ i. record { answer = answer i; book = book i }

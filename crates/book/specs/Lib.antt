@@ -1,7 +1,11 @@
+-- what the contracts cite
 pub mod Book
-pub mod Search
+-- what is claimed of it
+pub mod One
 pub mod Run
-pub mod Sound
-pub mod Kept
 pub mod Awaited
 pub mod Again
+-- what only serves proofs
+pub mod Search
+pub mod Sound
+pub mod Kept

@@ -9,7 +9,7 @@ use native.Mathlib.Omega.{arith}
 use borrow.Author.Tests.{not-true, not-false}
 use Rattle.refusal.specs.Test.{pick, pick-elim, clash, not-both}
 use Rattle.refusal.specs.Answer.{refused, full, demand, demand-elim, full-one}
-use Rattle.command.specs.Command.{isKnown}
+use Rattle.command.specs.Command.{isKnown, mayAsk}
 use Rattle.book.specs.declared.Book.{Book}
 use Rattle.book.specs.Book.{next, entry, holds, firstFree, numberFor, commandOf}
 
@@ -59,7 +59,8 @@ search-found asked n (suc k) m hn e =
         }
 
 -- where it finds none of the k numbers after n, each of them is held
-pub search-none : (asked : List ℕ) (n k j : ℕ) → n < 256 → firstFree asked n k ≡ refused j → (t : ℕ) → t < 256 → between n t < k → holds asked t ≡ true
+pub search-none : (asked : List ℕ) (n k j : ℕ) → n < 256 → firstFree asked n k ≡ refused j
+    → (t : ℕ) → t < 256 → between n t < k → holds asked t ≡ true
 unfolding firstFree
 search-none asked n zero j hn e t ht h = absurd (omega arith)
 search-none asked n (suc k) j hn e t ht h =
@@ -79,10 +80,10 @@ unfolding firstFree
 search-full asked n zero h = refl
 search-full asked n (suc k) h = rw (h (next n) (omega arith)) (search-full asked (next n) k h)
 
--- what asking answers, for any book. An unknown command is 3, also where no number is free
-pub number-three : (b : Book) (c : ℕ) → (numberFor b c ≡ refused 3) ↔ (isKnown c ≡ false)
+-- what asking answers, for any book. A command that may not be asked is 3, also where no number is free
+pub number-three : (b : Book) (c : ℕ) → (numberFor b c ≡ refused 3) ↔ (mayAsk c ≡ false)
 unfolding numberFor
-number-three b c = (to (isKnown c), λ u. rw u)
+number-three b c = (to (mayAsk c), λ u. rw u)
   where
     to : (t : Bool) → demand t 3 (firstFree (b .asked) (b .last) 256) ≡ refused 3 → t ≡ false
     to true e = absurd (omega (arith, search-nine (b .asked) (b .last) 256 3 e))
@@ -90,12 +91,12 @@ number-three b c = (to (isKnown c), λ u. rw u)
 
 module _ (b : Book) (c : ℕ) (hl : b .last < 256) where
   -- "takes the first free number after the last one given"
-  pub number-full : (n : ℕ) → numberFor b c ≡ full n → (isKnown c ≡ true) × Found (b .asked) (b .last) n
+  pub number-full : (n : ℕ) → numberFor b c ≡ full n → (mayAsk c ≡ true) × Found (b .asked) (b .last) n
   unfolding numberFor
-  number-full n = demand-elim (isKnown c) 3 (λ k e. (k, search-found (b .asked) (b .last) 256 n hl e))
+  number-full n = demand-elim (mayAsk c) 3 (λ k e. (k, search-found (b .asked) (b .last) 256 n hl e))
 
   -- "It refuses with 9 exactly if no number is free."
-  pub number-nine : isKnown c ≡ true → (j : ℕ) → (numberFor b c ≡ refused j) ↔ ((j ≡ 9) × ((t : ℕ) → t < 256 → holds (b .asked) t ≡ true))
+  pub number-nine : mayAsk c ≡ true → (j : ℕ) → (numberFor b c ≡ refused j) ↔ ((j ≡ 9) × ((t : ℕ) → t < 256 → holds (b .asked) t ≡ true))
   unfolding numberFor
   number-nine k j =
       rw k (

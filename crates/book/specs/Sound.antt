@@ -1,51 +1,29 @@
 -- Every book of a run from a fresh one "holds, for each sequence number 0 to 255, nothing or the command asked".
 use Prim.Native.Nat.{ℕ, zero, suc, _≤_, _<_}
 use mathlib.Core.Path.{_≡_, refl, ap, _∙_}
-use mathlib.Core.Bool.{Bool, true, false, _&&_}
+use mathlib.Core.Bool.{true, false}
 use mathlib.Core.List.{List, [], _∷_}
 use mathlib.Core.Logic.{_⊎_, inl, inr, ⊎-elim}
-use lib.Dec.{leb, ltb}
 use lib.ListN.{length, set, replicate, length-set, length-replicate, List·getD-eq-default}
 use native.Mathlib.Decide.{decLt}
 use native.Mathlib.Omega.{arith}
-use borrow.Author.Tests.{ltb-true, lt-leb}
-use Rattle.refusal.specs.Test.{pick, both-left, both-right, not-both}
+use Rattle.refusal.specs.Test.{not-both}
 use Rattle.refusal.specs.Answer.{Answer, refused, full}
-use Rattle.command.specs.Command.{Row, row, find, rows, shapeOf, named, isKnown}
-use Rattle.command.specs.declared.Shape.the-variants.{Unknown}
+use Rattle.command.specs.Command.{shapeOf, isKnown}
+use Rattle.command.specs.Known.{known-byte, may-ask-known}
 use Rattle.book.specs.declared.Book.{Book}
-use Rattle.book.specs.Book.{nothing, entry, holds, freshBook, numberFor, noted, commandOf, freed}
+use Rattle.book.specs.Book.{vacant, entry, holds, freshBook, numberFor, noted, commandOf, freed}
 use Rattle.book.specs.Search.{number-full}
 use Rattle.book.specs.Run.{Call, ask, reply, after, run, bookOf}
 
 -- what stands for nothing is no known command
-pub nothing-free : isKnown nothing ≡ false
+pub vacant-free : isKnown vacant ≡ false
 unfolding shapeOf
-nothing-free = refl
-
--- a known command is a byte, since each line of the table of commands ends below 256
-ends : List Row → Bool
-ends [] = true
-ends (row lo hi s ∷ rs) = ltb hi 256 && ends rs
-
-past-the-end : (c : ℕ) (rs : List Row) → 256 ≤ c → ends rs ≡ true → find c rs ≡ Unknown
-unfolding ends
-past-the-end c [] h e = refl
-past-the-end c (row lo hi s ∷ rs) h e =
-    let end : hi < 256 = ltb-true hi 256 (both-left (ltb hi 256) (ends rs) e) in
-    rw (lt-leb c hi (omega arith), past-the-end c rs h (both-right (ltb hi 256) (ends rs) e)) (either (leb lo c))
-  where
-    either : (t : Bool) → pick t Unknown Unknown ≡ Unknown
-    either true = refl
-    either false = refl
-
-pub known-byte : (c : ℕ) → isKnown c ≡ true → c < 256
-unfolding shapeOf ends
-known-byte c k = elim (decLt c 256) [ yes h ↦ h | no h ↦ (not-both k (ap named (past-the-end c rows (omega arith) refl))) ]
+vacant-free = refl
 
 -- nothing, or a command
 abbrev pub IsEntry : ℕ → Type 0
-IsEntry e = (e ≡ nothing) ⊎ (isKnown e ≡ true)
+IsEntry e = (e ≡ vacant) ⊎ (isKnown e ≡ true)
 
 pub record Sound (b : Book) : Type 0 where
   pub count : length (b .asked) ≡ 256
@@ -59,15 +37,15 @@ sound-byte {b} s n = ⊎-elim (λ e. omega arith) (known-byte (entry (b .asked) 
 pub held-below : {b : Book} → Sound b → (n : ℕ) → holds (b .asked) n ≡ true → n < 256
 held-below {b} s n h =
     elim (decLt n 256)
-    [ yes l ↦ l | no l ↦ (not-both h (ap isKnown (List·getD-eq-default (b .asked) nothing {n = n} (omega (arith, s .count))) ∙ nothing-free)) ]
+    [ yes l ↦ l | no l ↦ (not-both h (ap isKnown (List·getD-eq-default (b .asked) vacant {n = n} (omega (arith, s .count))) ∙ vacant-free)) ]
 
-pub fresh-entry : (k n : ℕ) → entry (replicate k nothing) n ≡ nothing
+pub fresh-entry : (k n : ℕ) → entry (replicate k vacant) n ≡ vacant
 fresh-entry zero n = refl
 fresh-entry (suc k) zero = refl
 fresh-entry (suc k) (suc n) = fresh-entry k n
 
 sound-fresh : Sound freshBook
-sound-fresh = record { count = length-replicate 256 nothing; entries = λ n. inl (fresh-entry 256 n); latest = omega arith }
+sound-fresh = record { count = length-replicate 256 vacant; entries = λ n. inl (fresh-entry 256 n); latest = omega arith }
 
 -- one entry set
 set-entry : (asked : List ℕ) (i e : ℕ) → IsEntry e → ((n : ℕ) → IsEntry (entry asked n)) → (n : ℕ) → IsEntry (entry (set asked i e) n)
@@ -87,12 +65,12 @@ after-sound b (ask c) s = go (numberFor b c) refl
     go (refused k) e = s
     go (full n) e =
         let f = number-full b c (s .latest) n e in
-        sound-set n c n s (inr (f .0)) (f .1 .below)
+        sound-set n c n s (inr (may-ask-known c (f .0))) (f .1 .below)
 after-sound b (reply n) s = go (commandOf b n)
   where
     go : (v : Answer ℕ) → Sound (freed b n v)
     go (refused k) = s
-    go (full c) = sound-set n nothing (b .last) s (inl refl) (s .latest)
+    go (full c) = sound-set n vacant (b .last) s (inl refl) (s .latest)
 
 pub run-sound : (past : List Call) → Sound (bookOf past)
 unfolding run

@@ -1,5 +1,5 @@
 // The book of unanswered requests: which sequence numbers are awaited, and the command asked under each. A book goes in by
-// value and comes back beside the answer. It leans on crate command for what a known command is.
+// value and comes back beside the answer. It leans on crate command for which commands are known and which may be asked.
 // Document 01, "The book of unanswered requests", with refusals 3, 9 and 10.
 ghost use mathlib.Core.Path.{_≡_};
 ghost use Rattle.book.specs.Book.{freshBook, firstFree, numberFor, saidGiven, Asks, Replies};
@@ -12,7 +12,7 @@ pub struct Book {
 }
 
 // What stands for nothing held where this crate writes it.
-const NOTHING: u8 = 0;
+const VACANT: u8 = 0;
 
 // What asking answers: the sequence number for the request, or the number of its refusal.
 pub enum Given {
@@ -41,7 +41,7 @@ pub fn fresh() -> Book
     ensures { λ r. ⌜ r ≡ freshBook ⌝ }
 {
     Book {
-        asked: [NOTHING; 256],
+        asked: [VACANT; 256],
         last: 255,
     }
 }
@@ -63,11 +63,11 @@ fn first_free(asked: &[u8; 256], last: u8) -> Given
     Given::Refused(9)
 }
 
-// The number for a request with this command. An unknown command is 3, also where no number is free.
+// The number for a request with this command. One that may not be asked is 3, also where no number is free.
 fn number_for(b: Book, command: u8) -> Given
     ensures { λ r. ⌜ saidGiven r ≡ numberFor b command ⌝ }
 {
-    if !command::known(command) {
+    if !command::may_ask(command) {
         return Given::Refused(3);
     }
     first_free(&b.asked, b.last)
@@ -107,7 +107,7 @@ pub fn reply(b: Book, number: u8) -> Replied
         };
     }
     let mut freed = b;
-    freed.asked[at] = NOTHING;
+    freed.asked[at] = VACANT;
     Replied {
         answer: Freed::Command(command),
         book: freed,

@@ -1,1 +1,2 @@
+-- what is claimed: the cases of document 01
 pub mod Cases

@@ -3,7 +3,7 @@ use Prim.Native.Nat.{ℕ}
 use mathlib.Core.Bool.{Bool, _&&_, _||_}
 use lib.Bits.{bitOr}
 use lib.Dec.{leb, eqb}
-use Rattle.target.specs.Target.{isGearOrGroup, isLighting, isDevice}
+use Rattle.target.specs.Target.{isGear, isGroup, isGearOrGroup, isLighting, isStatusBroadcast, isDevice}
 use Rattle.command.specs.declared.Rule.{Rule}
 use Rattle.command.specs.declared.Rule.the-variants.{Group, Emit, Bare, Timers, GroupScene, Channel, Filter, Query, Gear, Inhibit, Scene, Level, Lights, Address, Status}
 
@@ -11,29 +11,40 @@ use Rattle.command.specs.declared.Rule.the-variants.{Group, Emit, Bare, 
 abbrev pub unnamed : ℕ → Bool
 unnamed x = eqb x 0
 
-abbrev pub isGroup : ℕ → Bool
-isGroup x = leb x 15
+-- "scene 0–12", "instance 0–31", "B start 0–63"
+abbrev pub lastScene : ℕ
+lastScene = 12
 
-abbrev pub isGear : ℕ → Bool
-isGear x = leb x 63
+abbrev pub lastInstance : ℕ
+lastInstance = 31
+
+abbrev pub lastStart : ℕ
+lastStart = 63
 
 abbrev pub isScene : ℕ → Bool
-isScene x = leb x 12
+isScene x = leb x lastScene
 
 abbrev pub isInstance : ℕ → Bool
-isInstance x = leb x 31
+isInstance x = leb x lastInstance
 
 -- "A has no bits outside C3"
+abbrev pub emitBits : ℕ
+emitBits = 0xC3
+
 abbrev pub isEmit : ℕ → Bool
-isEmit x = eqb (bitOr x 0xC3) 0xC3
+isEmit x = eqb (bitOr x emitBits) emitBits
+
+-- "B = 255", "D is 255", "A .. or 255": no instance, or no address, is meant
+abbrev pub isAny : ℕ → Bool
+isAny x = eqb x 255
 
 -- 31 and 33: "A 0–63 with B = 255, or A 64–127 with B 0–31"
 abbrev pub isFiltered : ℕ → ℕ → Bool
-isFiltered a b = (isGear a && eqb b 255) || (isDevice a && isInstance b)
+isFiltered a b = (isGear a && isAny b) || (isDevice a && isInstance b)
 
 -- 32: "A 0–127 or 255"; "D is 255 where A is 0–63 or 255, and 0–31 or 255 where A is 64–127"
 abbrev pub isQueried : ℕ → ℕ → Bool
-isQueried a d = ((isGear a || eqb a 255) && eqb d 255) || (isDevice a && (isInstance d || eqb d 255))
+isQueried a d = ((isGear a || isAny a) && isAny d) || (isDevice a && (isInstance d || isAny d))
 
 -- the arguments A, B, C, D are within the ranges of a rule
 unfoldable pub fits : Rule → ℕ → ℕ → ℕ → ℕ → Bool
@@ -44,11 +55,11 @@ fits Timers a b c d = isDevice a && unnamed b && unnamed c && isInstance d
 fits GroupScene a b c d = isGroup a && isScene b && unnamed c && unnamed d
 fits Channel a b c d = unnamed a
 fits Filter a b c d = isFiltered a b
-fits Query a b c d = leb b 63 && unnamed c && isQueried a d
+fits Query a b c d = leb b lastStart && unnamed c && isQueried a d
 fits Gear a b c d = isGear a && unnamed b && unnamed c && unnamed d
 fits Inhibit a b c d = isLighting a && unnamed b
 fits Scene a b c d = isLighting a && unnamed b && unnamed c && isScene d
 fits Level a b c d = isLighting a && unnamed b && unnamed c
 fits Lights a b c d = isLighting a && unnamed b && unnamed c && unnamed d
 fits Address a b c d = isGearOrGroup a && unnamed b && unnamed c && unnamed d
-fits Status a b c d = (isGearOrGroup a || eqb a 81) && unnamed b && unnamed c && unnamed d
+fits Status a b c d = (isGearOrGroup a || isStatusBroadcast a) && unnamed b && unnamed c && unnamed d

@@ -6,8 +6,7 @@ use native.Mathlib.Omega.{arith}
 use lib.Dec.{eqb}
 use lib.ListN.{length, getD, drop}
 use Rattle.refusal.specs.Test.{pick}
-use Rattle.error.specs.Error.{Entry, entry, table, look}
-use Rattle.error.specs.declared.Name.the-variants.{Number}
+use Rattle.error.specs.Error.{Entry, entry, table, name, look}
 
 abbrev pub codes : List ℕ
 codes = 0x01 ∷ 0x02 ∷ 0x03 ∷ 0x04 ∷ 0xB0 ∷ 0xB1 ∷ 0xB2 ∷ 0xB3 ∷ 0xB4 ∷ 0xB5 ∷ 0xB6 ∷ 0xB7 ∷ 0xB8 ∷ []
@@ -27,6 +26,6 @@ at (k ∷ ks) (n ∷ ns) zero h l = refl
 at (k ∷ ks) (n ∷ ns) (suc i) h l = at ks ns i (omega arith) (omega arith)
 
 -- one turn of the search
-pub turn : (i c : ℕ) → i < 13 → look (drop i table) c ≡ pick (eqb (getD codes i 0) c) (Number (getD names i 0)) (look (drop (suc i) table) c)
+pub turn : (i c : ℕ) → i < 13 → look (drop i table) c ≡ pick (eqb (getD codes i 0) c) (name (getD names i 0)) (look (drop (suc i) table) c)
 unfolding look
 turn i c h = rw (at codes names i h h)

@@ -19,10 +19,19 @@ table =
     -- OTHER_DALI_ERROR, MAX_LIMIT, UNEXPECTED_RESULT, UNKNOWN_TARGET
     ∷ entry 0xB5 10 ∷ entry 0xB6 11 ∷ entry 0xB7 12 ∷ entry 0xB8 13 ∷ []
 
--- the name beside a code, or none
-unfoldable pub look : List Entry → ℕ → Name
-look [] c = Nothing
-look (entry k n ∷ rest) c = pick (eqb k c) (Number n) (look rest c)
+-- what the table has beside a code: the number of its name, or none
+pub data Naming : Type 0 where
+  name : ℕ → Naming
+  no-name : Naming
 
-unfoldable pub nameOf : ℕ → Name
+unfoldable pub look : List Entry → ℕ → Naming
+look [] c = no-name
+look (entry k n ∷ rest) c = pick (eqb k c) (name n) (look rest c)
+
+unfoldable pub nameOf : ℕ → Naming
 nameOf c = look table c
+
+-- document 01's values for each case of a name
+abbrev pub saidName : Name → Naming
+saidName (Number n) = name n
+saidName Nothing = no-name

@@ -1,7 +1,7 @@
 // The error codes that have names, from a fixed table. Document 01: "Error codes 01–04 and B0–B8 have names from a fixed
 // table"; source 002, "Error Codes", has the names.
 ghost use mathlib.Core.Path.{_≡_};
-ghost use Rattle.error.specs.Error.{nameOf};
+ghost use Rattle.error.specs.Error.{nameOf, saidName};
 
 // The thirteen codes, in the order of source 002.
 const CODES: [u8; 13] = [
@@ -33,7 +33,7 @@ pub enum Name {
 
 // The name of a code by the table.
 pub fn name_of(code: u8) -> Name
-    ensures { λ r. ⌜ r ≡ nameOf code ⌝ }
+    ensures { λ r. ⌜ saidName r ≡ nameOf code ⌝ }
 {
     let mut i: usize = 0;
     while i < 13 {

@@ -6,6 +6,7 @@ use mathlib.Core.Path.{_≡_}
 use mathlib.Core.Bool.{false}
 use mathlib.Core.List.{List, [], _∷_, _++_}
 use lib.ListN.{length}
+use Rattle.lead.specs.Lead.{eventData}
 use Rattle.sum.specs.Bytes.{Bytes}
 use Rattle.frame.specs.Frame.{sealed}
 use Rattle.order.specs.Big.{bigBytes}
@@ -13,14 +14,21 @@ use Rattle.event.specs.Types.{lacks}
 use Rattle.event.specs.declared.Mac.{Mac}
 
 -- where an event's parts stand: the MAC from 2, the target from 8, then the type, n, and the data
+abbrev pub targetAt : ℕ
+targetAt = 8
+
 abbrev pub typeAt : ℕ → ℕ
-typeAt w = 8 + w
+typeAt w = targetAt + w
 
 abbrev pub countAt : ℕ → ℕ
-countAt w = suc (8 + w)
+countAt w = suc (typeAt w)
 
 abbrev pub dataAt : ℕ → ℕ
-dataAt w = suc (suc (8 + w))
+dataAt w = suc (countAt w)
+
+-- "14 + n bytes": the least of an event, whose target has three
+abbrev pub least : ℕ → ℕ
+least w = suc (dataAt w)
 
 abbrev pub macBytes : Mac → List ℕ
 macBytes m = m .0 ∷ m .1 ∷ m .2 ∷ m .3 ∷ m .4 ∷ m .5 ∷ []
@@ -30,16 +38,16 @@ pub data Fields : Type 0 where
   event : Mac → ℕ → ℕ → List ℕ → Fields
 
 pub data InRange (w : ℕ) : Fields → Type 0 where
-  event-fits : {m : Mac} {t k : ℕ} {l : List ℕ} → length l ≤ 48 → t < 256 ^ w → lacks k (length l) ≡ false
+  event-fits : {m : Mac} {t k : ℕ} {l : List ℕ} → length l ≤ eventData → t < 256 ^ w → lacks k (length l) ≡ false
       → Bytes (macBytes m) → Bytes (k ∷ l) → InRange w (event m t k l)
 
 -- the bytes in front of the data
-abbrev pub lead : ℕ → Mac → ℕ → ℕ → ℕ → List ℕ
-lead w m t k n = (0x5A ∷ 0x43 ∷ m .0 ∷ m .1 ∷ m .2 ∷ m .3 ∷ m .4 ∷ m .5 ∷ []) ++ bigBytes w t ++ (k ∷ n ∷ [])
+abbrev pub front : ℕ → Mac → ℕ → ℕ → ℕ → List ℕ
+front w m t k n = (0x5A ∷ 0x43 ∷ macBytes m) ++ bigBytes w t ++ (k ∷ n ∷ [])
 
 -- the bytes in front of the sum
 abbrev pub head : ℕ → Fields → List ℕ
-head w (event m t k l) = lead w m t k (length l) ++ l
+head w (event m t k l) = front w m t k (length l) ++ l
 
 -- an event's datagram
 abbrev pub layout : ℕ → Fields → List ℕ

@@ -1,5 +1,11 @@
+-- what the contracts cite
 pub mod Types
 pub mod Layout
 pub mod Reading
 pub mod Writing
+-- what is claimed of it
+pub mod Determined
 pub mod Demand2
+-- what only serves proofs
+pub mod Fits
+pub mod Again

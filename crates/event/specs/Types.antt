@@ -1,57 +1,48 @@
--- Document 01: "Event types 0, 1, 2, 6, 7 carry an instance number as first data byte, so they need n of at least 1. Types 0 to 9
--- have the source's names. Types above 9 are accepted and keep their number, since the maker may append more."
+-- Document 01: "Event types 0, 1, 2, 6, 7 carry an instance number as first data byte, so they need n of at least 1. Types 0 to 9 have
+-- the source's names. Types above 9 are accepted and keep their number, since the maker may append more."
 use Prim.Native.Nat.{ℕ}
-use mathlib.Core.Path.{_≡_, refl, sym, _∙_}
-use mathlib.Core.Bool.{Bool, true, false, _&&_, _||_}
+use mathlib.Core.Bool.{Bool, _&&_, _||_}
 use lib.Dec.{leb, eqb}
-use borrow.Author.Tests.{eqb-true}
 use Rattle.refusal.specs.Test.{pick}
 use Rattle.event.specs.declared.EventType.{EventType}
-use Rattle.event.specs.declared.EventType.the-variants.{ButtonPress, ButtonHold, AbsoluteInput, LevelChange, GroupLevelChange, SceneChange, IsOccupied, IsUnoccupied, ColourChanged, ProfileChanged, Other}
+use Rattle.event.specs.declared.EventType.the-variants.{ButtonPress, ButtonHold, AbsoluteInput, LevelChange, GroupLevelChange}
+use Rattle.event.specs.declared.EventType.the-variants.{SceneChange, IsOccupied, IsUnoccupied, ColourChanged, ProfileChanged, Other}
 use Rattle.event.specs.declared.Instance.{Instance}
 use Rattle.event.specs.declared.Instance.the-variants.{Number, Absent}
 
--- the number of each case of a type, by source 002's table
-abbrev pub numberOf : EventType → ℕ
-numberOf ButtonPress = 0
-numberOf ButtonHold = 1
-numberOf AbsoluteInput = 2
-numberOf LevelChange = 3
-numberOf GroupLevelChange = 4
-numberOf SceneChange = 5
-numberOf IsOccupied = 6
-numberOf IsUnoccupied = 7
-numberOf ColourChanged = 8
-numberOf ProfileChanged = 9
-numberOf (Other n) = n
+-- a type in document 01's terms: its number, and whether it is given by the source's name or by the number alone
+pub data Kind : Type 0 where
+  byName : ℕ → Kind
+  byNumber : ℕ → Kind
 
--- the type that a number stands for
-unfoldable pub typeOf : ℕ → EventType
-typeOf n =
-    pick (eqb n 0) ButtonPress
-    (pick (eqb n 1) ButtonHold
-    (pick (eqb n 2) AbsoluteInput
-    (pick (eqb n 3) LevelChange
-    (pick (eqb n 4) GroupLevelChange
-    (pick (eqb n 5) SceneChange
-    (pick (eqb n 6) IsOccupied
-    (pick (eqb n 7) IsUnoccupied
-    (pick (eqb n 8) ColourChanged
-    (pick (eqb n 9) ProfileChanged
-    (Other n))))))))))
+-- document 01's number and values for each case of a type, the numbers by source 002's table
+abbrev pub saidType : EventType → Kind
+saidType ButtonPress = byName 0
+saidType ButtonHold = byName 1
+saidType AbsoluteInput = byName 2
+saidType LevelChange = byName 3
+saidType GroupLevelChange = byName 4
+saidType SceneChange = byName 5
+saidType IsOccupied = byName 6
+saidType IsUnoccupied = byName 7
+saidType ColourChanged = byName 8
+saidType ProfileChanged = byName 9
+saidType (Other n) = byNumber n
 
--- a type keeps its number
-module _ (n : ℕ) where
-  either : (k : ℕ) (x y : EventType) → numberOf x ≡ k → numberOf y ≡ n → numberOf (pick (eqb n k) x y) ≡ n
-  either k x y e f = go (eqb n k) refl
-    where
-      go : (t : Bool) → eqb n k ≡ t → numberOf (pick t x y) ≡ n
-      go true q = e ∙ sym (eqb-true n k q)
-      go false q = f
+-- "Types 0 to 9 have the source's names. Types above 9 .. keep their number"
+abbrev pub lastNamed : ℕ
+lastNamed = 9
 
-  pub number-kept : numberOf (typeOf n) ≡ n
-  unfolding typeOf
-  number-kept = either 0 ButtonPress _ refl (either 1 ButtonHold _ refl (either 2 AbsoluteInput _ refl (either 3 LevelChange _ refl (either 4 GroupLevelChange _ refl (either 5 SceneChange _ refl (either 6 IsOccupied _ refl (either 7 IsUnoccupied _ refl (either 8 ColourChanged _ refl (either 9 ProfileChanged _ refl refl)))))))))
+abbrev pub kindOf : ℕ → Kind
+kindOf n = pick (leb n lastNamed) (byName n) (byNumber n)
+
+-- the number of a type
+abbrev pub kindNumber : Kind → ℕ
+kindNumber (byName n) = n
+kindNumber (byNumber n) = n
+
+abbrev pub typeNumber : EventType → ℕ
+typeNumber t = kindNumber (saidType t)
 
 -- a type carries an instance number as first data byte
 abbrev pub carries : ℕ → Bool
@@ -61,6 +52,16 @@ carries t = leb t 2 || eqb t 6 || eqb t 7
 abbrev pub lacks : ℕ → ℕ → Bool
 lacks t n = carries t && eqb n 0
 
+-- an instance in document 01's terms: the number that is carried, or none
+pub data Carried : Type 0 where
+  carried : ℕ → Carried
+  none : Carried
+
+-- document 01's values for each case of an instance
+abbrev pub saidInstance : Instance → Carried
+saidInstance (Number i) = carried i
+saidInstance Absent = none
+
 -- the instance of an event of type t, whose first data byte b would be
-abbrev pub instanceOf : ℕ → ℕ → Instance
-instanceOf t b = pick (carries t) (Number b) Absent
+abbrev pub instanceOf : ℕ → ℕ → Carried
+instanceOf t b = pick (carries t) (carried b) none

@@ -1,13 +1,31 @@
-// Events as single datagrams: read, their data part, and written into a lent buffer.
+// Events as single datagrams: read, their data part, written into a lent buffer, and relayed. It leans on lead for the lead and the most
+// data, on order for the target, on sum and frame for the sum and the last step of writing.
 // Document 01, "Frames"; source 002, "TPI Event Multicast Frame" and "TPI Event Types".
-ghost use Prim.Native.Nat.{_≤_};
+ghost use Prim.Native.Nat.{_+_, _≤_};
 ghost use mathlib.Core.Path.{_≡_};
 ghost use lib.ListN.{length};
+ghost use denote.Ref.{ptr};
 ghost use Rattle.frame.specs.Written.{Written};
-ghost use Rattle.event.specs.Types.{typeOf, numberOf, instanceOf};
-ghost use Rattle.event.specs.Reading.{said, eventIn, readEvent, dataOf};
+ghost use Rattle.frame.specs.Relay.{relayed};
+ghost use Rattle.event.specs.Types.{saidType, kindOf, typeNumber, carries, saidInstance, instanceOf};
+ghost use Rattle.event.specs.Reading.{said, saidEvent, eventIn, readEvent, dataOf, dataStart};
 ghost use Rattle.event.specs.Writing.{eventFrame};
 use frame::Wrote;
+
+// "Event, 14 + n bytes: 5A 43, six MAC bytes, three target bytes, event type, n, n data bytes, sum": where the parts behind the
+// target stand, by its width, and the least.
+const WIDTH: usize = 3;
+
+const TYPE_AT: usize = 8 + WIDTH;
+
+const COUNT_AT: usize = TYPE_AT + 1;
+
+const DATA_AT: usize = COUNT_AT + 1;
+
+const LEAST: usize = DATA_AT + 1;
+
+// The largest target that three bytes hold.
+const TARGET_MOST: u32 = 0xFFFFFF;
 
 // The MAC address of a controller, in the order in which it is written.
 pub struct Mac(pub u8, pub u8, pub u8, pub u8, pub u8, pub u8);
@@ -51,7 +69,7 @@ pub enum Reading {
 impl EventType {
     // The type that a number stands for.
     pub fn of(number: u8) -> EventType
-        ensures { λ r. ⌜ r ≡ typeOf number ⌝ }
+        ensures { λ r. ⌜ saidType r ≡ kindOf number ⌝ }
     {
         match number {
             0 => EventType::ButtonPress,
@@ -70,7 +88,7 @@ impl EventType {
 
     // The number of a type.
     pub fn number(self) -> u8
-        ensures { λ r. ⌜ r ≡ numberOf self ⌝ }
+        ensures { λ r. ⌜ r ≡ typeNumber self ⌝ }
     {
         match self {
             EventType::ButtonPress => 0,
@@ -88,11 +106,18 @@ impl EventType {
     }
 }
 
+// Whether a type carries an instance number: types 0, 1, 2, 6 and 7 do.
+fn has_instance(kind: u8) -> bool
+    ensures { λ r. ⌜ r ≡ carries kind ⌝ }
+{
+    (kind <= 2) | (kind == 6) | (kind == 7)
+}
+
 // The instance of an event of this type, whose first data byte this would be.
 fn instance_of(kind: u8, first: u8) -> Instance
-    ensures { λ r. ⌜ r ≡ instanceOf kind first ⌝ }
+    ensures { λ r. ⌜ saidInstance r ≡ instanceOf kind first ⌝ }
 {
-    if (kind <= 2) | (kind == 6) | (kind == 7) {
+    if has_instance(kind) {
         Instance::Number(first)
     } else {
         Instance::Absent
@@ -102,15 +127,15 @@ fn instance_of(kind: u8, first: u8) -> Instance
 // The reading of a datagram that was found to be an event.
 fn event_in(s: &[u8]) -> Event
     requires { ⌜ 14 ≤ length (now s) ⌝ }
-    ensures { λ r. ⌜ r ≡ eventIn 3 (now (s .entry)) ⌝ }
+    ensures { λ r. ⌜ saidEvent r ≡ eventIn 3 (now (s .entry)) ⌝ }
 {
-    let kind = s[11];
+    let kind = s[TYPE_AT];
     Event {
         mac: Mac(s[2], s[3], s[4], s[5], s[6], s[7]),
         target: order::high_first_of_three(s[8], s[9], s[10]),
         kind: EventType::of(kind),
-        n: s[12] as usize,
-        instance: instance_of(kind, s[13]),
+        n: s[COUNT_AT] as usize,
+        instance: instance_of(kind, s[DATA_AT]),
     }
 }
 
@@ -118,27 +143,24 @@ fn event_in(s: &[u8]) -> Event
 pub fn read(s: &[u8]) -> Reading
     ensures { λ r. ⌜ said r ≡ readEvent 3 (now (s .entry)) ⌝ }
 {
-    if s.len() < 14 {
+    if s.len() < LEAST {
         return Reading::Refused(1);
     }
-    if s[0] != 0x5A {
+    if !lead::is_event(s[0], s[1]) {
         return Reading::Refused(2);
     }
-    if s[1] != 0x43 {
-        return Reading::Refused(2);
-    }
-    let n = s[12] as usize;
-    if 48 < n {
+    let n = s[COUNT_AT] as usize;
+    if lead::EVENT_DATA < n {
         return Reading::Refused(4);
     }
-    if s.len() != n + 14 {
+    if s.len() != n + LEAST {
         return Reading::Refused(5);
     }
     if sum::xor(s) != 0 {
         return Reading::Refused(6);
     }
-    let kind = s[11];
-    if ((kind <= 2) | (kind == 6) | (kind == 7)) & (n == 0) {
+    let kind = s[TYPE_AT];
+    if has_instance(kind) & (n == 0) {
         return Reading::Refused(7);
     }
     Reading::Accepted(event_in(s))
@@ -146,15 +168,20 @@ pub fn read(s: &[u8]) -> Reading
 
 // The data of an event, as that part of the caller's own datagram, the instance included; empty where the datagram is refused.
 pub fn data(s: &[u8]) -> &[u8]
-    ensures { λ r. ⌜ now r ≡ dataOf 3 (now (s .entry)) ⌝ }
+    ensures { λ r. ⌜ (now r ≡ dataOf 3 (now (s .entry)))
+        × (ptr r .0 ≡ ptr (s .entry) .0)
+        × (ptr r .1 ≡ dataStart 3 (now (s .entry)) + ptr (s .entry) .1) ⌝ }
 {
     let r = read(s);
     match r {
         Reading::Accepted(event) => {
-            let e = event.n + 13;
-            &s[13..e]
+            let e = event.n + DATA_AT;
+            &s[DATA_AT..e]
         }
-        Reading::Refused(_) => &s[..0],
+        Reading::Refused(_) => {
+            let start = 0;
+            &s[start..start]
+        }
     }
 }
 
@@ -164,21 +191,21 @@ pub fn write(mac: Mac, target: u32, kind: u8, data: &[u8], out: &mut [u8]) -> Wr
     ensures { λ r. ⌜ Written (eventFrame 3 mac target kind (now («data» .entry))) (now (out .entry)) r (now (out .exit)) ⌝ }
 {
     let n = data.len();
-    if 48 < n {
+    if lead::EVENT_DATA < n {
         return Wrote::Refused(4);
     }
-    if 0xFFFFFF < target {
+    if TARGET_MOST < target {
         return Wrote::Refused(7);
     }
-    if ((kind <= 2) | (kind == 6) | (kind == 7)) & (n == 0) {
+    if has_instance(kind) & (n == 0) {
         return Wrote::Refused(7);
     }
     let high = (target / 256 / 256 % 256) as u8;
     let middle = (target / 256 % 256) as u8;
     let low = (target % 256) as u8;
     let head = [
-        0x5A,
-        0x43,
+        lead::EVENT[0],
+        lead::EVENT[1],
         mac.0,
         mac.1,
         mac.2,
@@ -192,4 +219,21 @@ pub fn write(mac: Mac, target: u32, kind: u8, data: &[u8], out: &mut [u8]) -> Wr
         n as u8,
     ];
     frame::write(&head, data, out)
+}
+
+// Reads an event and writes it again: an accepted datagram comes back byte for byte, 8 where the buffer is too short for it. Another
+// gives the refusal of its reading.
+pub fn relay(s: &[u8], out: &mut [u8]) -> Wrote
+    ensures { λ r. ⌜ Written (relayed (readEvent 3 (now (s .entry))) (now (s .entry))) (now (out .entry)) r (now (out .exit)) ⌝ }
+{
+    let r = read(s);
+    match r {
+        Reading::Accepted(event) => {
+            let mac = event.mac;
+            let kind = event.kind;
+            let end = event.n + DATA_AT;
+            write(mac, event.target, kind.number(), &s[DATA_AT..end], out)
+        }
+        Reading::Refused(k) => Wrote::Refused(k),
+    }
 }

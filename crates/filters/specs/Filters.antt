@@ -1,7 +1,6 @@
 -- Document 01, "Four orders in reply data": "Filters (to 32): a mode byte, then k entries of address, instance, mask high, mask
 -- low; k is 0 to 15."
 use Prim.Native.Nat.{ℕ, _+_, _*_, _/_}
-use mathlib.Core.Path.{_≡_}
 use mathlib.Core.List.{List, [], _∷_}
 use lib.Dec.{leb, ltb, eqb}
 use lib.ListN.{length, getD}
@@ -9,27 +8,34 @@ use Rattle.refusal.specs.Answer.{Answer, refused, full, demand}
 use Rattle.order.specs.Order.{highFirst, numberIn}
 use Rattle.filters.specs.declared.Filters as filters
 use Rattle.filters.specs.declared.Filter.{Filter}
-use Rattle.filters.specs.declared.Held.{Held}
-use Rattle.filters.specs.declared.Held.the-variants.{Filters, Refused as held·Refused}
+use Rattle.filters.specs.declared.Listed.{Listed}
+use Rattle.filters.specs.declared.Listed.the-variants.{Filters, Refused as listed·Refused}
 use Rattle.filters.specs.declared.Found.{Found}
 use Rattle.filters.specs.declared.Found.the-variants.{Entry, Refused as found·Refused}
 
 -- document 01's number and values for each case of an answer
-abbrev pub saidFilters : Held → Answer filters.Filters
-saidFilters (held·Refused k) = refused k
+abbrev pub saidFilters : Listed → Answer filters.Filters
+saidFilters (listed·Refused k) = refused k
 saidFilters (Filters f) = full f
 
 abbrev pub saidEntry : Found → Answer Filter
 saidEntry (found·Refused k) = refused k
 saidEntry (Entry e) = full e
 
+-- the bytes of an entry, and the most entries
+abbrev pub entrySize : ℕ
+entrySize = 4
+
+abbrev pub entriesMost : ℕ
+entriesMost = 15
+
 -- k, of a size 1 + 4k
 abbrev pub countIn : List ℕ → ℕ
-countIn s = length s / 4
+countIn s = length s / entrySize
 
 -- 11 where the size is not "1 + 4k with k at most 15"
 abbrev pub sized : {A : Type 0} → List ℕ → Answer A → Answer A
-sized s x = demand (eqb (length s) (1 + 4 * countIn s)) 11 (demand (leb (countIn s) 15) 11 x)
+sized s x = demand (eqb (length s) (1 + entrySize * countIn s)) 11 (demand (leb (countIn s) entriesMost) 11 x)
 
 -- the mode and k
 abbrev pub filtersOf : List ℕ → Answer filters.Filters
@@ -44,18 +50,8 @@ entryAt s at = record {
 }
 
 -- entry i; "filter entry numbered k or more (from 0)" is 12
+abbrev pub entryIn : List ℕ → ℕ → Answer Filter
+entryIn s i = demand (ltb i (countIn s)) 12 (full (entryAt s (1 + entrySize * i)))
+
 abbrev pub entryOf : List ℕ → ℕ → Answer Filter
-entryOf s i = sized s (demand (ltb i (countIn s)) 12 (full (entryAt s (1 + 4 * i))))
-
--- the numbers and values tell the answers apart
-pub saidFilters-one : (x y : Held) → saidFilters x ≡ saidFilters y → x ≡ y
-saidFilters-one (held·Refused j) (held·Refused k) e = cc
-saidFilters-one (held·Refused j) (Filters f) e = cc
-saidFilters-one (Filters f) (held·Refused k) e = cc
-saidFilters-one (Filters f) (Filters g) e = cc
-
-pub saidEntry-one : (x y : Found) → saidEntry x ≡ saidEntry y → x ≡ y
-saidEntry-one (found·Refused j) (found·Refused k) e = cc
-saidEntry-one (found·Refused j) (Entry f) e = cc
-saidEntry-one (Entry f) (found·Refused k) e = cc
-saidEntry-one (Entry f) (Entry g) e = cc
+entryOf s i = sized s (entryIn s i)

@@ -10,7 +10,7 @@ use borrow.Author.Tests.{eq-eqb, le-leb, lt-ltb, eqb-true, leb-true}
 use native.Mathlib.Nat.{add-zero}
 use native.Mathlib.Omega.{arith}
 use Rattle.refusal.specs.Answer.{Answer, full, demand-elim}
-use Rattle.order.specs.Order.{highFirst, numberIn, numberOf}
+use Rattle.order.specs.Order.{highFirst, numberIn, numberBy}
 use Rattle.filters.specs.declared.Filters as filters
 use Rattle.filters.specs.declared.Filter.{Filter}
 use Rattle.filters.specs.Filters.{countIn, sized, filtersOf, entryOf}
@@ -40,7 +40,8 @@ laid-length m [] = refl
 laid-length m (e ∷ es) = omega (arith, laid-length m es)
 
 -- a mode byte and some entries behind it are read as that mode and that many
-pub filters-laid : (m : ℕ) (es : List Filter) → length es ≤ 15 → filtersOf (m ∷ laidOut es) ≡ full (record { mode = m; entries = length es })
+pub filters-laid : (m : ℕ) (es : List Filter) → length es ≤ 15
+    → filtersOf (m ∷ laidOut es) ≡ full (record { mode = m; entries = length es })
 filters-laid m es h =
     let s : List ℕ = m ∷ laidOut es in
     let l : length s ≡ 1 + 4 * length es = laid-length m es in
@@ -49,13 +50,15 @@ filters-laid m es h =
     ∙ ap (λ (n : ℕ). full (record { mode = m; entries = n })) k
 
 -- and each entry as it was laid out
-pub entry-laid : (m : ℕ) (p : List Filter) (e : Filter) (q : List Filter) → length p + 1 + length q ≤ 15 → entryOf (m ∷ laidOut (p ++ (e ∷ q))) (length p) ≡ full e
-unfolding numberOf
+pub entry-laid : (m : ℕ) (p : List Filter) (e : Filter) (q : List Filter) → length p + 1 + length q ≤ 15
+    → entryOf (m ∷ laidOut (p ++ (e ∷ q))) (length p) ≡ full e
+unfolding numberBy
 entry-laid m p e q h =
     let n : length (p ++ (e ∷ q)) ≡ length p + 1 + length q = omega (arith, length-append p (e ∷ q)) in
     let l : length s ≡ 1 + 4 * length (p ++ (e ∷ q)) = laid-length m (p ++ (e ∷ q)) in
     let t : ltb (length p) (countIn s) ≡ true = lt-ltb (length p) (countIn s) (omega arith) in
-    sized-taken s (length (p ++ (e ∷ q))) _ l (omega arith) ∙ rw t (ap full (λ i. record { address = address i; instance = at 1 i; mask = mask i }))
+    sized-taken s (length (p ++ (e ∷ q))) _ l (omega arith)
+    ∙ rw t (ap full (λ i. record { address = address i; instance = at 1 i; mask = mask i }))
   where
     s : List ℕ
     s = m ∷ laidOut (p ++ (e ∷ q))

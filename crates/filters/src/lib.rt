@@ -4,6 +4,9 @@
 ghost use mathlib.Core.Path.{_≡_};
 ghost use Rattle.filters.specs.Filters.{saidFilters, saidEntry, filtersOf, entryOf};
 
+// "k entries of address, instance, mask high, mask low": the bytes of an entry. They stand behind the mode byte.
+const ENTRY: usize = 4;
+
 // "k is 0 to 15"
 const MOST: usize = 15;
 
@@ -21,7 +24,7 @@ pub struct Filter {
 }
 
 // The filters of a reply, or the number of the refusal.
-pub enum Held {
+pub enum Listed {
     Filters(Filters),
     Refused(u8),
 }
@@ -33,45 +36,43 @@ pub enum Found {
 }
 
 // The mode and the number of entries; 11 where the size is not 1 + 4k with k at most 15.
-pub fn read(s: &[u8]) -> Held
+pub fn read(s: &[u8]) -> Listed
     ensures { λ r. ⌜ saidFilters r ≡ filtersOf (now (s .entry)) ⌝ }
 {
-    let entries = s.len() / 4;
-    let size = 1 + 4 * entries;
+    let entries = s.len() / ENTRY;
+    let size = 1 + ENTRY * entries;
     if s.len() != size {
-        return Held::Refused(11);
+        return Listed::Refused(11);
     }
     if MOST < entries {
-        return Held::Refused(11);
+        return Listed::Refused(11);
     }
     let mode = s[0];
-    Held::Filters(Filters { mode, entries })
+    Listed::Filters(Filters { mode, entries })
 }
 
 // Entry i, counted from 0; 11 as for the whole, and 12 where there are not so many.
 pub fn entry(s: &[u8], i: usize) -> Found
     ensures { λ r. ⌜ saidEntry r ≡ entryOf (now (s .entry)) i ⌝ }
 {
-    let k = s.len() / 4;
-    let whole = 1 + 4 * k;
-    if s.len() != whole {
-        return Found::Refused(11);
+    let r = read(s);
+    match r {
+        Listed::Filters(f) => {
+            if f.entries <= i {
+                return Found::Refused(12);
+            }
+            let at = 1 + ENTRY * i;
+            let address = s[at];
+            let instance = s[at + 1];
+            let high = s[at + 2];
+            let low = s[at + 3];
+            let mask = order::high_first(high, low);
+            Found::Entry(Filter {
+                address,
+                instance,
+                mask,
+            })
+        }
+        Listed::Refused(k) => Found::Refused(k),
     }
-    if MOST < k {
-        return Found::Refused(11);
-    }
-    if k <= i {
-        return Found::Refused(12);
-    }
-    let at = 1 + 4 * i;
-    let address = s[at];
-    let instance = s[at + 1];
-    let high = s[at + 2];
-    let low = s[at + 3];
-    let mask = order::high_first(high, low);
-    Found::Entry(Filter {
-        address,
-        instance,
-        mask,
-    })
 }

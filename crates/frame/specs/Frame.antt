@@ -7,7 +7,8 @@ use lib.Seq.{drop-cons, take-add}
 use native.Mathlib.Nat.{add-suc, suc-add, add-zero, zero-add}
 use native.Mathlib.Omega.{arith}
 use Rattle.sum.specs.Bytes.{Bytes, bytes-none, bytes-cons, bytes-append}
-use Rattle.sum.specs.Sum.{sumOf, sum-closed, sum-closes, sum-byte}
+use Rattle.sum.specs.Sum.{sumOf}
+use Rattle.sum.specs.Sums.{sum-closed, sum-closes, sum-byte}
 
 -- the byte at a place of a datagram
 abbrev pub byte : ℕ → List ℕ → ℕ

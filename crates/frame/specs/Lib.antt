@@ -1,3 +1,4 @@
 pub mod Frame
 pub mod Written
+pub mod Relay
 pub mod Demand2

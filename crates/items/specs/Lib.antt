@@ -1,10 +1,8 @@
-pub mod Text
-pub mod Over
+-- what the contracts cite
 pub mod Pour
-pub mod Ready
-pub mod Pouring
+-- what is claimed of it: what is poured are the first items of the whole line, and how long a line of its text can be
 pub mod Poured
 pub mod Room
-pub mod Keep
-pub mod Run
-pub mod Worked
+-- what only serves proofs
+pub mod Ready
+pub mod Pouring

@@ -4,22 +4,21 @@ use mathlib.Core.Path.{_≡_, refl, sym, ap, _∙_}
 use mathlib.Core.Bool.{Bool, true, false}
 use mathlib.Core.List.{List, [], _∷_, _++_, append-assoc, append-nil}
 use lib.ListN.{length, take, drop, length-append, length-drop, drop-of-length-le}
-use lib.Seq.{take-at, drop-at, drop-append-add, drop-drop, length-take-le}
-use lib.Dec.{leb}
+use lib.Seq.{take-at, drop-append-add, drop-drop, length-take-le}
 use borrow.Author.Tests.{le-leb, lt-leb, leb-true, leb-false}
 use native.Mathlib.Nat.{add-zero, sub-zero}
 use native.Mathlib.Omega.{arith}
-use Rattle.refusal.specs.Test.{pick}
 use Rattle.lent.specs.Puts.{fits, over, Puts}
-use Rattle.stream.specs.declared.Step.{Step}
-use Rattle.stream.specs.declared.Step.the-variants.{More, Item as Settled}
-use Rattle.stream.specs.Stream.{Item, reading, numberOf, sizeOf, countsOf}
-use Rattle.stream.specs.Lawful.{Lawful}
-use Rattle.items.specs.declared.Poured.{Poured}
-use Rattle.items.specs.Text.{lineOf, textOf, line-some}
 use Rattle.lent.specs.Over.{puts-room}
-use Rattle.items.specs.Pour.{isReady, ready, fitting, poured, Pours}
-use Rattle.items.specs.Ready.{ready-none, ready-next, ready-waits}
+use Rattle.stream.specs.Stream.{Item, reading, nothing, stands, countsOf}
+use Rattle.line.specs.declared.Line.{Line}
+use Rattle.line.specs.Rule.{itemAt}
+use Rattle.line.specs.Says.{none-at, stands-at}
+use Rattle.printed.specs.Text.{lineOf, textOf}
+use Rattle.printed.specs.Length.{line-some, text-append, text-one}
+use Rattle.items.specs.declared.Poured.{Poured}
+use Rattle.items.specs.Pour.{ready, fitting, poured, Pours}
+use Rattle.items.specs.Ready.{ready-next, ready-stops}
 
 -- one item more
 pub counts-snoc : (is : List Item) (k : ℕ) (s : List ℕ) → countsOf (is ++ (reading k s ∷ [])) ≡ countsOf is + length s
@@ -27,10 +26,8 @@ unfolding countsOf
 counts-snoc [] k s = omega arith
 counts-snoc (reading j t ∷ is) k s = omega (arith, counts-snoc is k s)
 
-pub text-snoc : (is : List Item) (i : Item) → textOf (is ++ (i ∷ [])) ≡ textOf is ++ lineOf i
-unfolding textOf
-text-snoc [] i = append-nil (lineOf i)
-text-snoc (j ∷ is) i = ap (λ (l : List ℕ). lineOf j ++ l) (text-snoc is i) ∙ sym (append-assoc (lineOf j) (textOf is) (lineOf i))
+text-snoc : (is : List Item) (i : Item) → textOf (is ++ (i ∷ [])) ≡ textOf is ++ lineOf i
+text-snoc is i = text-append is (i ∷ []) ∙ rw (text-one i)
 
 -- a text behind another that stands at the start of a buffer
 behind-text : (x t out : List ℕ) (w : ℕ) → w ≡ length x → over t (x ++ drop w out) w ≡ x ++ t ++ drop (w + length t) out
@@ -49,28 +46,16 @@ pub fitting-none : (room : ℕ) → fitting room [] ≡ []
 unfolding fitting
 fitting-none room = refl
 
--- what a pour wrote is in the buffer
-pub wrote-there : {p : List Item} {start : ℕ} {out out′ : List ℕ} {r : Poured} → Pours p start out r out′ → r .wrote ≤ length out′
-wrote-there {p} {start} {out} w = omega (arith, w .wrote, ap length (w .leaves) ∙ length-append (textOf p) (drop (length (textOf p)) out))
-
 -- a pour that wrote nothing poured nothing
 pub wrote-none : (p : List Item) {start : ℕ} {out out′ : List ℕ} {r : Poured} → Pours p start out r out′ → r .wrote ≡ 0 → p ≡ []
 unfolding textOf
 wrote-none [] w e = refl
 wrote-none (i ∷ is) w e = absurd (omega (arith, w .wrote, line-some i, length-append (lineOf i) (textOf is)))
 
--- an item at the front is there whole
-pub size-there : (settle : List ℕ → Step) (law : Lawful settle) (s : List ℕ) → 1 ≤ length s → sizeOf (settle s) ≤ length s
-size-there settle law s h = go (settle s) refl
-  where
-    go : (x : Step) → settle s ≡ x → sizeOf x ≤ length s
-    go More e = h
-    go (Settled k m d) e = omega (arith, law .within s k m d e, law .there s k m d e)
-
 -- the bytes s from place start on, poured over the buffer out₀, are read up to place at, and the text reaches place w of the buffer, which is out
-pub record Pouring (settle : List ℕ → Step) (closed : Bool) (s : List ℕ) (start : ℕ) (out₀ : List ℕ) (at w : ℕ) (out : List ℕ) : Type 0 where
+pub record Pouring (on : Line) (closed : Bool) (s : List ℕ) (start : ℕ) (out₀ : List ℕ) (at w : ℕ) (out : List ℕ) : Type 0 where
   pub done : List Item
-  pub left : poured settle closed (length out₀) (drop start s) ≡ done ++ fitting (length out₀ - w) (ready settle closed (drop at s))
+  pub left : poured on closed (length out₀) (drop start s) ≡ done ++ fitting (length out₀ - w) (ready on closed (drop at s))
   pub here : at ≡ start + countsOf done
   pub place : w ≡ length (textOf done)
   pub wrote : out ≡ textOf done ++ drop w out₀
@@ -91,59 +76,58 @@ stayed {t} {out} {out′} {at} {r} h p n = go (fits t out at) refl
     go true e = let q : r ≡ at + length t = p .says ∙ rw e in absurd (omega arith)
     go false e = (leb-false (at + length t) (length out) e, p .leaves ∙ rw e)
 
-module _ {settle : List ℕ → Step} {closed : Bool} {s : List ℕ} {start : ℕ} {out₀ : List ℕ} where
-  pub pouring-starts : Pouring settle closed s start out₀ start 0 out₀
+module _ {on : Line} {closed : Bool} {s : List ℕ} {start : ℕ} {out₀ : List ℕ} where
+  pub pouring-starts : Pouring on closed s start out₀ start 0 out₀
   unfolding countsOf textOf
   pouring-starts = record { done = []; left = rw sub-zero; here = sym (add-zero start); place = refl; wrote = refl; room = omega arith }
 
-  pub pouring-length : {at w : ℕ} {out : List ℕ} → Pouring settle closed s start out₀ at w out → length out ≡ length out₀
+  pub pouring-length : {at w : ℕ} {out : List ℕ} → Pouring on closed s start out₀ at w out → length out ≡ length out₀
   pouring-length p = ap length (p .wrote) ∙ simp (length-append, length-drop) (omega (arith, p .place, p .room))
 
   -- where nothing more is poured, the pour is over
-  stops : {at w : ℕ} {out : List ℕ} → Pouring settle closed s start out₀ at w out → fitting (length out₀ - w) (ready settle closed (drop at s)) ≡ []
-      → Pours (poured settle closed (length out₀) (drop start s)) start out₀ (record { read = at; wrote = w }) out
+  stops : {at w : ℕ} {out : List ℕ} → Pouring on closed s start out₀ at w out → fitting (length out₀ - w) (ready on closed (drop at s)) ≡ []
+      → Pours (poured on closed (length out₀) (drop start s)) start out₀ (record { read = at; wrote = w }) out
   stops {at} {w} {out} p e =
-      let q : poured settle closed (length out₀) (drop start s) ≡ p .done = p .left ∙ rw (e, append-nil (p .done)) in
+      let q : poured on closed (length out₀) (drop start s) ≡ p .done = p .left ∙ rw (e, append-nil (p .done)) in
       record { read = rw q (p .here); wrote = rw q (p .place); leaves = rw (q, ← p .place) (p .wrote) }
 
-  -- at the end of the bytes, and where the next item is not ready
-  pub stops-end : (law : Lawful settle) {at w : ℕ} {out : List ℕ} → Pouring settle closed s start out₀ at w out → length s ≤ at
-      → Pours (poured settle closed (length out₀) (drop start s)) start out₀ (record { read = at; wrote = w }) out
-  stops-end law {at} {w} p h = stops p (rw (drop-of-length-le s {i = at} h, ready-none settle law closed, fitting-none (length out₀ - w)))
+  -- at the end of the bytes, and where no item stands
+  pub stops-waiting : {at w : ℕ} {out : List ℕ} → Pouring on closed s start out₀ at w out → itemAt on closed (drop at s) ≡ nothing
+      → Pours (poured on closed (length out₀) (drop start s)) start out₀ (record { read = at; wrote = w }) out
+  stops-waiting {at} {w} p e = stops p (rw (ready-stops on closed (drop at s) e) (fitting-none (length out₀ - w)))
 
-  pub stops-waiting : (law : Lawful settle) {at w : ℕ} {out : List ℕ} → Pouring settle closed s start out₀ at w out → isReady closed (settle (drop at s)) ≡ false
-      → Pours (poured settle closed (length out₀) (drop start s)) start out₀ (record { read = at; wrote = w }) out
-  stops-waiting law {at} {w} p e = stops p (rw (ready-waits settle law closed (drop at s) e, fitting-none (length out₀ - w)))
+  pub stops-end : {at w : ℕ} {out : List ℕ} → Pouring on closed s start out₀ at w out → length s ≤ at
+      → Pours (poured on closed (length out₀) (drop start s)) start out₀ (record { read = at; wrote = w }) out
+  stops-end {at} p h = stops-waiting p (none-at on closed (drop at s) (simp length-drop (omega arith)))
 
-  -- the item at a place, by its number k and its size m
-  module _ (law : Lawful settle) {at w : ℕ} {out : List ℕ} (p : Pouring settle closed s start out₀ at w out) (h : at < length s)
-      (e : isReady closed (settle (drop at s)) ≡ true) (k m : ℕ) (number : k ≡ numberOf (settle (drop at s))) (size : m ≡ sizeOf (settle (drop at s))) where
+  -- the item that stands at a place, by its number k and its size m
+  module _ {at w : ℕ} {out : List ℕ} (p : Pouring on closed s start out₀ at w out) (k m : ℕ) (e : itemAt on closed (drop at s) ≡ stands k m) where
     abbrev item : Item
     item = reading k (take (at + m - at) (drop at s))
 
     part : at + m - at ≡ m
     part = omega arith
 
-    first : ready settle closed (drop at s) ≡ item ∷ ready settle closed (drop (at + m) s)
-    first = ready-next settle law closed (drop at s) (simp length-drop (omega arith)) e ∙ rw (← number, ← size, part, drop-drop m at s)
+    first : ready on closed (drop at s) ≡ item ∷ ready on closed (drop (at + m) s)
+    first = ready-next on closed (drop at s) k m e ∙ rw (part, drop-drop m at s)
 
     -- its line has no room
     pub stops-full : {out′ : List ℕ} {r : ℕ} → Puts (lineOf item) out w r out′ → r ≡ w
-        → Pours (poured settle closed (length out₀) (drop start s)) start out₀ (record { read = at; wrote = w }) out′
+        → Pours (poured on closed (length out₀) (drop start s)) start out₀ (record { read = at; wrote = w }) out′
     stops-full {out′} q n =
         let f = stayed (line-some item) q n in
         rw (f .1) (stops p (rw first (fitting-stops (length out₀ - w) item _ (omega (arith, f .0, pouring-length p)))))
 
     -- or it has, and the pour goes on behind it
-    pub goes-on : {out′ : List ℕ} {r : ℕ} → Puts (lineOf item) out w r out′ → (r ≡ w → ⊥) → Pouring settle closed s start out₀ (at + m) r out′
+    pub goes-on : {out′ : List ℕ} {r : ℕ} → Puts (lineOf item) out w r out′ → (r ≡ w → ⊥) → Pouring on closed s start out₀ (at + m) r out′
     goes-on {out′} {r} q n =
         let t = lineOf item in
         let f : w + length t ≤ length out = moved (line-some item) q n in
         let a = puts-room {t = t} {out = out} {at = w} f q in
-        let g : fitting (length out₀ - w) (item ∷ ready settle closed (drop (at + m) s)) ≡ item ∷ fitting (length out₀ - w - length t) (ready settle closed (drop (at + m) s)) =
+        let g : fitting (length out₀ - w) (item ∷ ready on closed (drop (at + m) s)) ≡ item ∷ fitting (length out₀ - w - length t) (ready on closed (drop (at + m) s)) =
         fitting-next (length out₀ - w) item _ (omega (arith, pouring-length p)) in
         let d : length out₀ - w - length t ≡ length out₀ - r = omega (arith, a .0) in
-        let l : m ≤ length (drop at s) = rw size (size-there settle law (drop at s) (simp length-drop (omega arith))) in
+        let l : m ≤ length (drop at s) = stands-at on closed (drop at s) k m e .3 in
         let b : length (take (at + m - at) (drop at s)) ≡ m = rw part (length-take-le m (drop at s) l) in
         record {
           done = p .done ++ (item ∷ []);

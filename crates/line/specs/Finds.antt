@@ -7,9 +7,8 @@ use lib.ListN.{length, take, drop}
 use lib.Seq.{take-length, drop-length}
 use native.Mathlib.Omega.{arith}
 use Rattle.refusal.specs.Test.{clash}
-use Rattle.stream.specs.declared.Step.{Step}
-use Rattle.stream.specs.declared.Step.the-variants.{Item}
-use Rattle.stream.specs.Stream.{Item as Read, reading, numberOf, sizeOf, items}
+use Rattle.stream.specs.Stream.{Settling, Settled}
+use Rattle.stream.specs.Stream.{Item, reading, itemNumber, itemSize, items}
 use Rattle.stream.specs.Items.{behind, items-none, items-settled, items-front}
 use Rattle.line.specs.declared.Line.{Line}
 use Rattle.line.specs.Line.{isLead}
@@ -23,20 +22,20 @@ hasLead on [] = false
 hasLead on (b ∷ q) = isLead on b || hasLead on q
 
 -- each byte of noise is item 2
-abbrev pub noiseItems : List ℕ → List Read
+abbrev pub noiseItems : List ℕ → List Item
 noiseItems [] = []
 noiseItems (b ∷ q) = reading 2 (b ∷ []) ∷ noiseItems q
 
 -- f is one whole frame with a right sum and its arguments in the table
 abbrev pub Accepted : Line → List ℕ → Type 0
-Accepted on f = settle on f ≡ Item 0 (length f) (length f)
+Accepted on f = settle on f ≡ Settled 0 (length f) (length f)
 
 either-false : (a b : Bool) → a || b ≡ false → (a ≡ false) × (b ≡ false)
 either-false true b e = clash (cc)
 either-false false b e = (refl, e)
 
 -- item 6 has one byte
-one-byte : (on : Line) (s : List ℕ) {x : Step} → Shows on s x → {m : ℕ} → numberOf x ≡ 6 → sizeOf x ≡ m → m ≡ 1
+one-byte : (on : Line) (s : List ℕ) {x : Settling} → Shows on s x → {m : ℕ} → itemNumber x ≡ 6 → itemSize x ≡ m → m ≡ 1
 one-byte on s (none h) n e = sym e
 one-byte on s (noise h l) n e = sym e
 one-byte on s (short f) n e = sym e
@@ -62,19 +61,22 @@ module _ (on : Line) where
   frame-alone f e = ap (items (settle on)) (sym (append-nil f)) ∙ frame-items f [] e ∙ rw (items-none (settle on) (lawful on))
 
   -- after noise that contains no lead of the line, the last item is the frame
-  pub frame-after-noise : (q f : List ℕ) → hasLead on q ≡ false → Accepted on f → items (settle on) (q ++ f) ≡ noiseItems q ++ (reading 0 f ∷ [])
-  frame-after-noise q f h e = noise-items q f h ∙ ap (λ (l : List Read). noiseItems q ++ l) (frame-alone f e)
+  pub frame-after-noise : (q f : List ℕ) → hasLead on q ≡ false → Accepted on f
+      → items (settle on) (q ++ f) ≡ noiseItems q ++ (reading 0 f ∷ [])
+  frame-after-noise q f h e = noise-items q f h ∙ ap (λ (l : List Item). noiseItems q ++ l) (frame-alone f e)
 
   -- "After a bad sum, throwing away as many bytes as the damaged length claims. A good frame inside is lost." One byte is passed
   -- over, and no more
-  pub slip : (s : List ℕ) (m d : ℕ) → settle on s ≡ Item 6 m d → items (settle on) s ≡ reading 6 (take 1 s) ∷ items (settle on) (drop 1 s)
+  pub slip : (s : List ℕ) (m d : ℕ) → settle on s ≡ Settled 6 m d
+      → items (settle on) s ≡ reading 6 (take 1 s) ∷ items (settle on) (drop 1 s)
   slip s m d e =
-      let q : m ≡ 1 = one-byte on s (shows on s) (ap numberOf e) (ap sizeOf e) in
+      let q : m ≡ 1 = one-byte on s (shows on s) (ap itemNumber e) (ap itemSize e) in
       items-settled (settle on) (lawful on) s 6 m d e ∙ rw q
 
   -- so a good frame inside the damaged one is found, where no lead of the line stands before it
-  pub frame-inside : (b : ℕ) (q f t : List ℕ) (m d : ℕ) → settle on (b ∷ (q ++ (f ++ t))) ≡ Item 6 m d → hasLead on q ≡ false → Accepted on f
+  pub frame-inside : (b : ℕ) (q f t : List ℕ) (m d : ℕ) → settle on (b ∷ (q ++ (f ++ t))) ≡ Settled 6 m d → hasLead on q ≡ false
+      → Accepted on f
       → items (settle on) (b ∷ (q ++ (f ++ t))) ≡ reading 6 (b ∷ []) ∷ (noiseItems q ++ (reading 0 f ∷ items (settle on) t))
   frame-inside b q f t m d e h a =
       slip (b ∷ (q ++ (f ++ t))) m d e
-      ∙ behind (noise-items q (f ++ t) h ∙ ap (λ (l : List Read). noiseItems q ++ l) (frame-items f t a))
+      ∙ behind (noise-items q (f ++ t) h ∙ ap (λ (l : List Item). noiseItems q ++ l) (frame-items f t a))

@@ -9,8 +9,7 @@ use lib.Dec.{eqb}
 use borrow.Author.Tests.{eqb-true}
 use native.Mathlib.Omega.{arith}
 use Rattle.refusal.specs.Test.{clash}
-use Rattle.stream.specs.declared.Step.{Step}
-use Rattle.stream.specs.declared.Step.the-variants.{Item}
+use Rattle.stream.specs.Stream.{Settling, Settled}
 use Rattle.stream.specs.Lawful.{not-more}
 use Rattle.stream.specs.Begins.{begins-at, begins-front}
 use Rattle.line.specs.declared.Line.{Line}
@@ -18,18 +17,19 @@ use Rattle.line.specs.declared.Line.the-variants.{Request, Reply}
 use Rattle.line.specs.declared.Extent.the-variants.{Bad, Frame}
 use Rattle.line.specs.Line.{isLead}
 use Rattle.line.specs.Rule.{settle}
-use Rattle.line.specs.Extents.{Told, bad, frame, lengthItem}
-use Rattle.line.specs.Cases.{settle-lead, framed-there, judged, Leads, Shows, none, noise, short, odd, part, bad-sum, outside, good, shows}
-use Rattle.line.specs.Laws.{leads-told, frame-fits}
+use Rattle.line.specs.Extents.{Tells, bad, frame, lengthItem}
+use Rattle.line.specs.Cases.{settle-lead, framed-there, judged, Leads}
+use Rattle.line.specs.Cases.{Shows, none, noise, short, odd, part, bad-sum, outside, good, shows}
+use Rattle.line.specs.Laws.{leads-tells, frame-fits}
 
 -- a frame at the front of a run, alone
 pub frame-front : (on : Line) (s : List ℕ) (n : ℕ) → Leads on s (Frame n) → n ≤ length s → Leads on (take n s) (Frame n)
-frame-front on s n w h = go (leads-told on s w)
+frame-front on s n w h = go (leads-tells on s w)
   where
-    go : Told on s (Frame n) → Leads on (take n s) (Frame n)
+    go : Tells on s (Frame n) → Leads on (take n s) (Frame n)
     go (frame n l u g) =
         let b = begins-front n s h in
-        let o = frame-fits on s (leads-told on s w) .0 in
+        let o = frame-fits on s (leads-tells on s w) .0 in
         record { some = omega (arith, b .there); lead = ap (isLead on) (sym (begins-at b 0 o)) ∙ w .lead; tells = g (take n s) b }
 
 -- what is said of a frame that stands alone
@@ -48,25 +48,25 @@ not-whole Request k e = go (eqb k 3) refl e
     go false q e = rw (eqb-true k 4 e)
 not-whole Reply k e = rw (eqb-true k 4 e)
 
-told-number : (on : Line) (s : List ℕ) (k d : ℕ) → Told on s (Bad k d) → isWhole k ≡ false
-told-number on s k d t = go t
+bad-number : (on : Line) (s : List ℕ) (k d : ℕ) → Tells on s (Bad k d) → isWhole k ≡ false
+bad-number on s k d t = go t
   where
-    go : Told on s (Bad k d) → isWhole k ≡ false
+    go : Tells on s (Bad k d) → isWhole k ≡ false
     go (bad k d o h l g) = not-whole on k o
 
 -- the bytes that settle such an item are a whole frame, judged
-pub whole-frame : (on : Line) (s : List ℕ) (k m d : ℕ) → settle on s ≡ Item k m d → isWhole k ≡ true
+pub whole-frame : (on : Line) (s : List ℕ) (k m d : ℕ) → settle on s ≡ Settled k m d → isWhole k ≡ true
     → Leads on s (Frame d) × (d ≤ length s) × (judged on d (take d s) ≡ settle on s)
 whole-frame on s k m d e w = go (shows on s) e
   where
     no : {P : Type 0} (j : ℕ) → isWhole j ≡ false → j ≡ k → P
     no j f q = clash (let y : isWhole j ≡ true = rw q w in cc)
 
-    go : {x : Step} → Shows on s x → x ≡ Item k m d → Leads on s (Frame d) × (d ≤ length s) × (judged on d (take d s) ≡ x)
+    go : {x : Settling} → Shows on s x → x ≡ Settled k m d → Leads on s (Frame d) × (d ≤ length s) × (judged on d (take d s) ≡ x)
     go (none h) e = not-more (sym e)
     go (noise h l) e = no 2 refl (cc)
     go (short f) e = not-more (sym e)
-    go (odd j c f) e = no j (told-number on s j c (leads-told on s f)) (cc)
+    go (odd j c f) e = no j (bad-number on s j c (leads-tells on s f)) (cc)
     go (part n f h) e = not-more (sym e)
     go (bad-sum n f h q) e = let p : d ≡ n = cc in rw p (f, h, rw q)
     go (outside n f h q t) e = let p : d ≡ n = cc in rw p (f, h, rw (q, t))

@@ -6,15 +6,14 @@ use mathlib.Core.List.{List}
 use lib.Dec.{eqb}
 use borrow.Author.Tests.{eqb-true}
 use Rattle.refusal.specs.Test.{clash}
-use Rattle.stream.specs.declared.Step.{Step}
-use Rattle.stream.specs.declared.Step.the-variants.{More, Item}
+use Rattle.stream.specs.Stream.{Settling, More, Settled}
 use Rattle.line.specs.declared.Line.{Line}
 use Rattle.line.specs.declared.Line.the-variants.{Request, Reply}
 use Rattle.line.specs.declared.Extent.the-variants.{Bad}
 use Rattle.line.specs.Rule.{settle}
-use Rattle.line.specs.Extents.{Told, bad, lengthItem}
+use Rattle.line.specs.Extents.{Tells, bad, lengthItem}
 use Rattle.line.specs.Cases.{Shows, none, noise, short, odd, part, bad-sum, outside, good, shows}
-use Rattle.line.specs.Laws.{leads-told}
+use Rattle.line.specs.Laws.{leads-tells}
 
 -- besides these, item 1 at close
 abbrev pub occurs : Line → ℕ → Bool
@@ -30,18 +29,18 @@ length-occurs Request k e = go (eqb k 3) refl e
 length-occurs Reply k e = rw (eqb-true k 4 e)
 
 -- what is said of a position has such a number, or no number yet
-abbrev pub numbered : Line → Step → Bool
-numbered on More = true
-numbered on (Item k m d) = occurs on k
+abbrev pub occursAt : Line → Settling → Bool
+occursAt on More = true
+occursAt on (Settled k m d) = occurs on k
 
-shown : (on : Line) (s : List ℕ) {x : Step} → Shows on s x → numbered on x ≡ true
+shown : (on : Line) (s : List ℕ) {x : Settling} → Shows on s x → occursAt on x ≡ true
 shown on s (none h) = refl
 shown Request s (noise h e) = refl
 shown Reply s (noise h e) = refl
 shown on s (short f) = refl
-shown on s (odd k d f) = go (leads-told on s f)
+shown on s (odd k d f) = go (leads-tells on s f)
   where
-    go : Told on s (Bad k d) → occurs on k ≡ true
+    go : Tells on s (Bad k d) → occurs on k ≡ true
     go (bad k d o h l g) = length-occurs on k o
 shown on s (part n f h) = refl
 shown Request s (bad-sum n f h q) = refl
@@ -51,5 +50,5 @@ shown Reply s (outside n f h q e) = clash (cc)
 shown Request s (good n f h q e) = refl
 shown Reply s (good n f h q e) = refl
 
-pub numbers : (on : Line) (s : List ℕ) → numbered on (settle on s) ≡ true
+pub numbers : (on : Line) (s : List ℕ) → occursAt on (settle on s) ≡ true
 numbers on s = shown on s (shows on s)

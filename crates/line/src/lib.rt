@@ -1,11 +1,16 @@
 // The request line and the reply line: what the bytes at a position of a line say. One rule serves both lines; a line is its
-// lead, what its first bytes tell of a frame's length, and the table of its arguments. It leans on the sum, the commands and
-// the words of a stream (crate stream). Document 01, "Reading a line".
+// lead, what its first bytes tell of a frame's length, and the table of its arguments. It leans on the leads, the sum, the
+// commands and the words of a stream (crate stream). Document 01, "Reading a line".
 ghost use Prim.Native.Nat.{_≤_};
 ghost use mathlib.Core.Path.{_≡_};
 ghost use lib.ListN.{length};
-ghost use Rattle.line.specs.Line.{isLead, extentOf, requestExtent, unicastExtent, replyExtent, inTable, requestInTable, capOf, leastOf};
-ghost use Rattle.line.specs.Rule.{settle, framed};
+ghost use Rattle.command.specs.declared.Shape.the-variants.{Unicast};
+ghost use Rattle.command.specs.Length.{lengthOf};
+ghost use Rattle.line.specs.Line.{isLead, lengthExtent, requestExtent, replyExtent, extentOf};
+ghost use Rattle.line.specs.Line.{inTable, requestInTable, capOf, leastOf};
+ghost use Rattle.line.specs.Rule.{settle, frameItem, itemAt};
+ghost use Rattle.line.specs.Said.{saidAt};
+ghost use Rattle.stream.specs.Said.{saidStep};
 use command::Shape;
 use stream::Step;
 
@@ -14,13 +19,21 @@ pub enum Line {
     Reply,
 }
 
+// "Reply, 4 + n bytes: type, sequence, n, n data bytes, sum": the bytes beside the data.
+const REPLY_FRAME: usize = 4;
+
+// The longest frame of each line: that of request 40, and a reply with the most data.
+pub const REQUEST_LONGEST: usize = command::UNICAST_BYTES;
+
+pub const REPLY_LONGEST: usize = lead::REPLY_DATA + REPLY_FRAME;
+
 // The most bytes that a reader of the line holds: one less than the longest frame has.
 pub fn most(line: Line) -> usize
     ensures { λ r. ⌜ r ≡ capOf line ⌝ }
 {
     match line {
-        Line::Request => 10,
-        Line::Reply => 67,
+        Line::Request => REQUEST_LONGEST - 1,
+        Line::Reply => REPLY_LONGEST - 1,
     }
 }
 
@@ -37,8 +50,8 @@ fn leads(line: Line, b: u8) -> bool
     ensures { λ r. ⌜ r ≡ isLead line b ⌝ }
 {
     match line {
-        Line::Request => b == 0x04,
-        Line::Reply => (0xA0 <= b) & (b <= 0xA3),
+        Line::Request => lead::is_request(b),
+        Line::Reply => lead::is_reply(b),
     }
 }
 
@@ -52,21 +65,21 @@ fn request_extent(s: &[u8]) -> Extent
     let shape = command::shape_of(s[2]);
     match shape {
         Shape::Unknown => Extent::Bad(3, 3),
-        Shape::Basic(_) => Extent::Frame(8),
+        Shape::Basic(_) => Extent::Frame(command::BASIC_BYTES),
         Shape::Unicast => unicast_extent(s),
     }
 }
 
 fn unicast_extent(s: &[u8]) -> Extent
-    ensures { λ r. ⌜ r ≡ unicastExtent (now (s .entry)) ⌝ }
+    ensures { λ r. ⌜ r ≡ lengthExtent (lengthOf Unicast) (now (s .entry)) ⌝ }
 {
     if s.len() < 4 {
         return Extent::Wait;
     }
-    if s[3] != 6 {
+    if s[3] != command::UNICAST_LENGTH {
         return Extent::Bad(4, 4);
     }
-    Extent::Frame(11)
+    Extent::Frame(command::UNICAST_BYTES)
 }
 
 // The length of a reply is told by its third byte.
@@ -77,10 +90,10 @@ fn reply_extent(s: &[u8]) -> Extent
         return Extent::Wait;
     }
     let n = s[2] as usize;
-    if 64 < n {
+    if lead::REPLY_DATA < n {
         return Extent::Bad(4, 3);
     }
-    Extent::Frame(n + 4)
+    Extent::Frame(n + REPLY_FRAME)
 }
 
 fn extent_of(line: Line, s: &[u8]) -> Extent
@@ -118,7 +131,7 @@ fn arguments_fit(f: &[u8]) -> bool
 // The item at a position where a frame of n bytes begins.
 fn frame(line: Line, n: usize, s: &[u8]) -> Step
     requires { ⌜ leastOf line ≤ n ⌝ }
-    ensures { λ r. ⌜ r ≡ framed line n (now (s .entry)) ⌝ }
+    ensures { λ r. ⌜ saidStep r ≡ frameItem line n (now (s .entry)) ⌝ }
 {
     if s.len() < n {
         return Step::More;
@@ -136,7 +149,7 @@ fn frame(line: Line, n: usize, s: &[u8]) -> Step
 
 // What the rule of a line says of the bytes at a position.
 pub fn settled(line: Line, s: &[u8]) -> Step
-    ensures { λ r. ⌜ r ≡ settle line (now (s .entry)) ⌝ }
+    ensures { λ r. ⌜ saidStep r ≡ settle line (now (s .entry)) ⌝ }
 {
     if s.len() < 1 {
         return Step::More;
@@ -149,5 +162,26 @@ pub fn settled(line: Line, s: &[u8]) -> Step
         Extent::Wait => Step::More,
         Extent::Bad(k, d) => Step::Item(k, 1, d),
         Extent::Frame(n) => frame(line, n, s),
+    }
+}
+
+// What stands at a position: nothing (yet, or no more), or an item by its number and its size.
+pub enum At {
+    Nothing,
+    Item(u8, usize),
+}
+
+// What stands at a position from which on these bytes are there. Where the line is closed no more come: what would wait is then
+// item 1, one byte.
+pub fn item_at(line: Line, closed: bool, s: &[u8]) -> At
+    ensures { λ r. ⌜ saidAt r ≡ itemAt line closed (now (s .entry)) ⌝ }
+{
+    if s.len() < 1 {
+        return At::Nothing;
+    }
+    let step = settled(line, s);
+    match step {
+        Step::Item(k, m, _) => At::Item(k, m),
+        Step::More => { if closed { At::Item(1, 1) } else { At::Nothing } }
     }
 }

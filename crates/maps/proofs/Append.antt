@@ -4,10 +4,10 @@ use mathlib.Core.Path.{_≡_}
 use lib.Pow.{pow-add}
 use native.Mathlib.Nat.{zero-add, one-mul, suc-add, mul-assoc}
 use native.Mathlib.Omega.{arith}
-use Rattle.order.specs.Order.{numberOf}
+use Rattle.order.specs.Order.{numberBy}
 
-pub number-append : (m n : ℕ) (f : ℕ → ℕ) → numberOf f m + 2 ^ (8 * m) * numberOf (λ j. f (m + j)) n ≡ numberOf f (m + n)
-unfolding numberOf
+pub number-append : (m n : ℕ) (f : ℕ → ℕ) → numberBy f m + 2 ^ (8 * m) * numberBy (λ j. f (m + j)) n ≡ numberBy f (m + n)
+unfolding numberBy
 number-append zero n f = simp (zero-add, one-mul)
 number-append (suc m) n f =
     let e : 8 * suc m ≡ 8 + 8 * m = omega arith in

@@ -6,7 +6,8 @@ use lib.Dec.{eqb}
 use native.Mathlib.Nat.{pow-suc}
 use native.Mathlib.Omega.{arith}
 use Rattle.refusal.specs.Test.{pick}
-use Rattle.maps.specs.Bit.{bit, howMany, lowest, bit-zero, bit-suc, howMany-same, lowest-same}
+use Rattle.maps.specs.Bit.{bit, howMany, lowest}
+use Rattle.maps.specs.Bits.{bit-zero, bit-suc, howMany-same, lowest-same}
 use Rattle.maps.specs.Maps.{countOf}
 
 pub counted : (w n : ℕ) → n < 2 ^ w → ones n ≡ countOf w n

@@ -9,10 +9,13 @@ use lib.Dec.{eqb}
 use lib.ListN.{length, getD}
 use borrow.Author.Tests.{eqb-true, eqb-false, eq-eqb, not-true}
 use native.Mathlib.Omega.{arith}
+use Rattle.refusal.specs.Test.{clash}
 use Rattle.refusal.specs.Answer.{refused, full, demand-elim, full-one}
 use Rattle.sum.specs.Bytes.{Bytes}
-use Rattle.maps.specs.Bit.{bit, howMany, Least, bit-two, howMany-same, lowest-least, least-same, bits-one, bits-none, bit-of-zero}
-use Rattle.order.specs.Order.{Order, highFirst, lowFirst, placeOf, byteOf, numberIn, number-fits}
+use Rattle.order.specs.Order.{Order, highFirst, lowFirst, placeOf, byteOf, numberIn}
+use Rattle.order.specs.Numbers.{number-fits}
+use Rattle.maps.specs.Bit.{bit, howMany, Least}
+use Rattle.maps.specs.Bits.{bit-two, howMany-same, lowest-least, least-same, bits-one, bits-none, bit-of-zero}
 use Rattle.maps.specs.Places.{placed, number-bit}
 use Rattle.maps.specs.Maps.{mapOf, maskOf, scenesOf, gearOf, typesOf, countOf, lowestOf}
 
@@ -31,7 +34,7 @@ lowest-none w x h = (go (eqb x 0) refl, λ z. rw (eq-eqb x 0 (bits-none w x h z)
   where
     go : (t : Bool) → eqb x 0 ≡ t → lowestOf w x ≡ refused 12 → (k : ℕ) → k < w → bit x k ≡ 0
     go true t e k l = rw (eqb-true x 0 t) (bit-of-zero k)
-    go false t e k l = absurd (let f : _≡_ {A = ℕ} 0 1 = cc (rw t at e) in omega arith)
+    go false t e k l = clash (cc (rw t at e))
 
 -- what the number x is that a run of n bytes holds in an order
 pub record Placed (o : Order) (n : ℕ) (s : List ℕ) (x : ℕ) : Type 0 where

@@ -1,6 +1,5 @@
--- Document 01's number and values for each case of an answer: they tell the answers apart.
+-- Document 01's number and values for each case of an answer.
 use Prim.Native.Nat.{ℕ}
-use mathlib.Core.Path.{_≡_}
 use Rattle.refusal.specs.Answer.{Answer, refused, full}
 use Rattle.maps.specs.declared.Map16.{Map16}
 use Rattle.maps.specs.declared.Map16.the-variants.{Bits as Bits16, Refused as Refused16}
@@ -26,27 +25,3 @@ said64 (Bits64 n) = full n
 abbrev pub saidLowest : Lowest → Answer ℕ
 saidLowest (Refused k) = refused k
 saidLowest (Is n) = full n
-
-pub said16-one : (x y : Map16) → said16 x ≡ said16 y → x ≡ y
-said16-one (Refused16 j) (Refused16 k) e = cc
-said16-one (Refused16 j) (Bits16 n) e = cc
-said16-one (Bits16 m) (Refused16 k) e = cc
-said16-one (Bits16 m) (Bits16 n) e = cc
-
-pub said32-one : (x y : Map32) → said32 x ≡ said32 y → x ≡ y
-said32-one (Refused32 j) (Refused32 k) e = cc
-said32-one (Refused32 j) (Bits32 n) e = cc
-said32-one (Bits32 m) (Refused32 k) e = cc
-said32-one (Bits32 m) (Bits32 n) e = cc
-
-pub said64-one : (x y : Map64) → said64 x ≡ said64 y → x ≡ y
-said64-one (Refused64 j) (Refused64 k) e = cc
-said64-one (Refused64 j) (Bits64 n) e = cc
-said64-one (Bits64 m) (Refused64 k) e = cc
-said64-one (Bits64 m) (Bits64 n) e = cc
-
-pub saidLowest-one : (x y : Lowest) → saidLowest x ≡ saidLowest y → x ≡ y
-saidLowest-one (Refused j) (Refused k) e = cc
-saidLowest-one (Refused j) (Is n) e = cc
-saidLowest-one (Is m) (Refused k) e = cc
-saidLowest-one (Is m) (Is n) e = cc

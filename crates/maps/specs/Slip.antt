@@ -8,17 +8,20 @@ use lib.ListN.{getD}
 use native.Mathlib.Omega.{arith}
 use Rattle.sum.specs.Bytes.{Bytes, bytes-none, bytes-cons}
 use Rattle.maps.specs.Bit.{bit, howMany}
-use Rattle.order.specs.Order.{highFirst, lowFirst, byteOf, numberIn, numberOf, number-bytes, number-same}
+use Rattle.order.specs.Order.{highFirst, lowFirst, byteOf, numberIn, numberBy}
+use Rattle.order.specs.Numbers.{number-bytes, number-same}
 use Rattle.maps.specs.Maps.{countOf}
 
-pub orders-agree : (n : ℕ) {s : List ℕ} → Bytes s → (numberIn highFirst n s ≡ numberIn lowFirst n s) ↔ ((j : ℕ) → j < n → getD s (n - 1 - j) 0 ≡ getD s j 0)
+pub orders-agree : (n : ℕ) {s : List ℕ} → Bytes s
+    → (numberIn highFirst n s ≡ numberIn lowFirst n s) ↔ ((j : ℕ) → j < n → getD s (n - 1 - j) 0 ≡ getD s j 0)
 orders-agree n {s} b =
     let high = byteOf highFirst n s in
     let low = byteOf lowFirst n s in
     (number-bytes n high low (λ j. b .byte (n - 1 - j)) (λ j. b .byte j), number-same n high low)
 
 -- the two readings of a mask agree exactly where its two bytes are equal
-pub mask-slip : (high low : ℕ) → high < 256 → low < 256 → (numberIn highFirst 2 (high ∷ low ∷ []) ≡ numberIn lowFirst 2 (high ∷ low ∷ [])) ↔ (high ≡ low)
+pub mask-slip : (high low : ℕ) → high < 256 → low < 256
+    → (numberIn highFirst 2 (high ∷ low ∷ []) ≡ numberIn lowFirst 2 (high ∷ low ∷ [])) ↔ (high ≡ low)
 mask-slip high low h l = (λ e. agree .0 e 1 (omega arith), λ e. agree .1 (λ j g. equal e j g))
   where
     s : List ℕ
@@ -34,7 +37,7 @@ mask-slip high low h l = (λ e. agree .0 e 1 (omega arith), λ e. agree .1 (λ j
 
 -- the bytes 01 08 are 264, which names the types 3 and 8; read low byte first they are 2049, which names 0 and 11
 pub mask-example : (numberIn highFirst 2 (0x01 ∷ 0x08 ∷ []) ≡ 264) × (numberIn lowFirst 2 (0x01 ∷ 0x08 ∷ []) ≡ 2049)
-unfolding numberOf
+unfolding numberBy
 mask-example = (refl, refl)
 
 pub mask-right : (countOf 16 264 ≡ 2) × (bit 264 3 ≡ 1) × (bit 264 8 ≡ 1)

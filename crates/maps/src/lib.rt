@@ -1,7 +1,6 @@
 // Maps in reply data: the event mask, the scenes of a group, the gear present and the gear types. Each is some bytes, in the
 // order that the maker gave it, and is handed back as one number whose bit k stands for event type, scene, gear or gear
-// type k. It leans on the words of refusal, on order for the
-// numbers of bytes, and on sum for what a run of bytes is.
+// type k. It leans on refusal for the words of a test, on order for the numbers of bytes, and on sum for what a run of bytes is.
 // Document 01, "Four orders in reply data".
 ghost use mathlib.Core.Path.{_≡_};
 ghost use mathlib.Core.List.{[], _∷_};
@@ -9,13 +8,16 @@ ghost use Rattle.order.specs.Order.{lowFirst, numberIn};
 ghost use Rattle.maps.specs.Maps.{maskOf, scenesOf, gearOf, typesOf, countOf, lowestOf};
 ghost use Rattle.maps.specs.Said.{said16, said32, said64, saidLowest};
 
-// The sizes in bytes.
+// The size of each in bytes. The mask of an entry is "mask high, mask low".
 const MASK_SIZE: usize = 2;
 
+// "Scenes of a group (to 1A): 2 bytes"
 const SCENES_SIZE: usize = 2;
 
+// "Gear present (to 1D): 8 bytes"
 const GEAR_SIZE: usize = 8;
 
+// "Gear types (to AC): 4 bytes"
 const TYPES_SIZE: usize = 4;
 
 // A map by its bits, or the number of the refusal.

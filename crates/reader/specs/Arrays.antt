@@ -1,12 +1,24 @@
--- A run of bytes at the front of an array, and zeros behind it: how a loop that copies byte by byte comes to it.
-use Prim.Native.Nat.{ℕ, suc, _+_, _-_, _≤_, _<_}
-use mathlib.Core.Path.{_≡_, refl, sym, _∙_}
-use mathlib.Core.List.{List, [], _∷_, _++_, append-assoc}
-use lib.ListN.{length, getD, take, set, replicate, length-append, length-replicate}
-use lib.Seq.{set-at, take-at, take-suc, take-all, length-take-le}
-use native.Mathlib.Numerals.{add-one}
+-- A run of bytes at the front of an array, and zeros behind it.
+use Prim.Native.Nat.{ℕ, zero, suc, _+_, _-_, _≤_}
+use mathlib.Core.Path.{_≡_, refl, ap, _∙_}
+use mathlib.Core.List.{List, [], _∷_, _++_}
+use lib.ListN.{length, getD, take, drop, replicate, length-append, length-replicate}
+use lib.Seq.{take-at}
+use native.Mathlib.Nat.{zero-add}
 use native.Mathlib.Omega.{arith}
-use Rattle.reader.specs.Reader.{pad, hold}
+use Rattle.lent.specs.Puts.{Puts}
+use Rattle.lent.specs.Over.{puts-room, puts-then}
+use Rattle.reader.specs.declared.Held.{Held}
+use Rattle.reader.specs.Reader.{pad, hold, heldRoom}
+
+-- zeros, by their number
+zeros-same : (k n : ℕ) → k ≡ n → replicate {A = ℕ} k 0 ≡ replicate n 0
+zeros-same k n e = ap (λ (z : ℕ). replicate {A = ℕ} z 0) e
+
+drop-zeros : (k n : ℕ) → drop {A = ℕ} k (replicate n 0) ≡ replicate (n - k) 0
+drop-zeros zero n = zeros-same n (n - 0) (omega arith)
+drop-zeros (suc k) zero = zeros-same 0 (0 - suc k) (omega arith)
+drop-zeros (suc k) (suc n) = drop-zeros k n ∙ zeros-same (n - k) (suc n - suc k) (omega arith)
 
 module _ (n : ℕ) (l : List ℕ) where
   pub length-pad : length l ≤ n → length (pad n l) ≡ n
@@ -17,29 +29,29 @@ module _ (n : ℕ) (l : List ℕ) where
   unfolding pad
   take-pad = take-at l _ (length l) refl
 
-  -- one byte more
-  pad-push : (a : ℕ) → length l < n → set (pad n l) (length l) a ≡ pad n (l ++ (a ∷ []))
+  -- put into an array of zeros
+  pub filled : (r : ℕ) (b : List ℕ) → length l ≤ n → Puts l (replicate n 0) 0 r b → (r ≡ length l) × (b ≡ pad n l)
   unfolding pad
-  pad-push a h =
-      let k = n - length (l ++ (a ∷ [])) in
-      let e : n - length l ≡ suc k = simp length-append (omega arith) in
-      rw e (set-at l 0 (replicate k 0) a (length l) refl ∙ sym (append-assoc l (a ∷ []) (replicate k 0)))
+  filled r b h p =
+      let w = puts-room {t = l} {out = replicate n 0} (simp length-replicate (omega arith)) p in
+      (omega (arith, w .0), w .1 ∙ rw (zero-add, drop-zeros (length l) n))
 
--- a copy that goes byte by byte
-pub pad-next : (n : ℕ) (s : List ℕ) (i : ℕ) → i < length s → i < n → set (pad n (take i s)) i (getD s i 0) ≡ pad n (take (i + 1) s)
-pad-next n s i h hn =
-    let e : length (take i s) ≡ i = length-take-le i s (omega arith) in
-    rw (add-one, take-suc s i 0) (rw e at (pad-push n (take i s) (getD s i 0) (omega arith)))
+-- one byte put into an array of zeros
+pub filled-one : (n : ℕ) (s : List ℕ) (r : ℕ) (b : List ℕ) → length s ≡ 1 → 1 ≤ n → Puts (getD s 0 0 ∷ []) (replicate n 0) 0 r b
+    → b ≡ pad n s
+filled-one n [] r b l h p = absurd (omega arith)
+filled-one n (x ∷ []) r b l h p = filled n (x ∷ []) r b (omega arith) p .1
+filled-one n (x ∷ (y ∷ s)) r b l h p = absurd (omega arith)
 
-pub pad-all : (n : ℕ) (s : List ℕ) (i : ℕ) → length s ≤ i → pad n (take i s) ≡ pad n s
-pad-all n s i h = rw take-all
+-- a run put into an array of zeros, and another behind it
+pub filled-then : (n : ℕ) (s t : List ℕ) (m r : ℕ) (a b : List ℕ) → length s + length t ≤ n → Puts s (replicate n 0) 0 m a → Puts t a m r b
+    → (r ≡ length (s ++ t)) × (b ≡ pad n (s ++ t))
+filled-then n s t m r a b h p q =
+    filled n (s ++ t) r b (simp length-append h)
+    (puts-then {t = s} {u = t} {out = replicate n 0} (simp length-replicate (omega arith)) p q)
 
--- a copy of one byte
-pub pad-one : (n : ℕ) (s : List ℕ) → length s ≡ 1 → 0 < n → set (pad n []) 0 (getD s 0 0) ≡ pad n s
-pad-one n s h l = pad-next n s 0 (omega arith) l ∙ pad-all n s 1 (omega arith)
-
-pub kept-all : (s b : List ℕ) (i : ℕ) → i ≤ length s → length s ≤ i → b ≡ pad 67 (take i s) → record { bytes = b; len = i } ≡ hold s
-kept-all s b i h h′ e =
-    let ei : i ≡ length s = omega arith in
-    let eb : b ≡ pad 67 s = e ∙ pad-all 67 s i h′ in
-    λ j. record { bytes = eb j; len = ei j }
+-- a state that holds a run
+pub held-is : (s b : List ℕ) (r : ℕ) → length s ≤ heldRoom → Puts s (replicate heldRoom 0) 0 r b → record { bytes = b; len = r } ≡ hold s
+held-is s b r h p =
+    let w = filled heldRoom s r b h p in
+    λ i. record { bytes = w .1 i; len = w .0 i }

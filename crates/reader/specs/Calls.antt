@@ -1,28 +1,50 @@
 -- What the code puts together is what the definitions say.
 use Prim.Native.Nat.{ℕ, suc, _-_, _≤_}
-use mathlib.Core.Path.{_≡_, sym, _∙_}
-use mathlib.Core.List.{List, [], _++_}
+use mathlib.Core.Path.{_≡_, refl, sym, ap, _∙_}
+use mathlib.Core.Bool.{Bool, true}
+use mathlib.Core.List.{List, [], _∷_, _++_}
 use lib.ListN.{length, take, drop, length-append, length-take, length-drop}
 use lib.Seq.{length-take-le, take-all}
 use native.Mathlib.Omega.{arith}
-use Rattle.stream.specs.declared.Step.the-variants.{More, Item as Settled}
-use Rattle.stream.specs.Stream.{numberOf, sizeOf, feed}
+use Rattle.stream.specs.Stream.{More, Settled}
+use Rattle.refusal.specs.Test.{clash}
+use Rattle.stream.specs.Stream.{nothing, stands, feed}
 use Rattle.stream.specs.Fewest.{feed-settled}
 use Rattle.stream.specs.Cut.{close-none, close-some}
 use Rattle.line.specs.declared.Line.{Line}
+use Rattle.line.specs.declared.At.{At}
+use Rattle.line.specs.declared.At.the-variants.{Nothing as At·Nothing, Item as At·Item}
 use Rattle.line.specs.Line.{capOf}
-use Rattle.line.specs.Rule.{settle}
+use Rattle.line.specs.Rule.{settle, itemAt}
+use Rattle.line.specs.Said.{saidAt}
+use Rattle.line.specs.Says.{nothing-at, stands-at}
 use Rattle.line.specs.Laws.{lawful, waits-few, by-few}
 use Rattle.reader.specs.declared.Held.{Held}
 use Rattle.reader.specs.declared.Given.{Given}
 use Rattle.reader.specs.declared.Window.{Window}
 use Rattle.reader.specs.declared.Got.the-variants.{Item}
-use Rattle.reader.specs.Reader.{pad, heldOf, hold, nothingOf, cutOf, givenOf, fedAfter, closedAfter}
+use Rattle.reader.specs.Reader.{heldRoom, itemRoom, pad, heldOf, hold, nothingOf, itemOf, givenOf, Feeds, Closes}
 use Rattle.reader.specs.Claims.{cap-fits, held-few, held-front}
+use Rattle.reader.specs.Answers.{feeds-by, closes-by}
 use Rattle.reader.specs.Window.{Joined, windowOf, begin-item, begin-nothing, resume-takes, resume-item, resume-nothing}
 
+-- the first m bytes of a run as an item, the others held
+abbrev pub cutOf : List ℕ → ℕ → ℕ → ℕ → Given
+cutOf s m j k = itemOf j k (take m s) (drop m s)
+
+-- where the line is closed, nothing stands at the end alone
+none-left : (on : Line) (s : List ℕ) → itemAt on true s ≡ nothing → s ≡ []
+none-left on [] e = refl
+none-left on (b ∷ s) e = clash (let w = nothing-at on true (b ∷ s) e (omega arith) .0 in cc)
+
+-- an item that stands has a byte, and its bytes are there
+pub at-fits : (on : Line) (closed : Bool) (s : List ℕ) (a : At) (k m : ℕ) → saidAt a ≡ itemAt on closed s → a ≡ At·Item k m
+    → (1 ≤ m) × (m ≤ length s)
+at-fits on closed s a k m e f = let w = stands-at on closed s k m (sym e ∙ ap saidAt f) in (w .2, w .3)
+
 -- an item cut off the front of a run
-pub cut-is : (s : List ℕ) (m j k : ℕ) (held : Held) (bytes : List ℕ) → m ≤ length s → held ≡ hold (take (length s - m) (drop m s)) → bytes ≡ pad 68 (take m s)
+pub cut-is : (s : List ℕ) (m j k : ℕ) (held : Held) (bytes : List ℕ) → m ≤ length s → held ≡ hold (take (length s - m) (drop m s))
+    → bytes ≡ pad itemRoom (take m s)
     → record { held = held; taken = j; got = Item k; count = m; bytes = bytes } ≡ cutOf s m j k
 cut-is s m j k held bytes l eh eb =
     let ec : m ≡ length (take m s) = sym (length-take-le m s l) in
@@ -31,7 +53,7 @@ cut-is s m j k held bytes l eh eb =
     λ i. record { held = eg i; taken = j; got = Item k; count = ec i; bytes = eb i }
 
 -- and one that is the whole run
-pub cut-whole : (s : List ℕ) (m j k : ℕ) (held : Held) (bytes : List ℕ) → length s ≡ m → held ≡ hold [] → bytes ≡ pad 68 (take m s)
+pub cut-whole : (s : List ℕ) (m j k : ℕ) (held : Held) (bytes : List ℕ) → length s ≡ m → held ≡ hold [] → bytes ≡ pad itemRoom (take m s)
     → record { held = held; taken = j; got = Item k; count = m; bytes = bytes } ≡ cutOf s m j k
 cut-whole s m j k held bytes l eh eb =
     let e : take (length s - m) (drop m s) ≡ [] = take-of (length s - m) (omega arith) in
@@ -42,16 +64,18 @@ cut-whole s m j k held bytes l eh eb =
 
 module _ (on : Line) where
   -- what is settled fits an item, and what waits fits a state
-  pub item-fits : (s : List ℕ) (k m d : ℕ) → settle on s ≡ Settled k m d → (1 ≤ m) × (m ≤ d) × (d ≤ length s) × (d ≤ 68) × (length (take d s) ≡ d)
+  pub item-fits : (s : List ℕ) (k m d : ℕ) → settle on s ≡ Settled k m d
+      → (1 ≤ m) × (m ≤ d) × (d ≤ length s) × (d ≤ itemRoom) × (length (take d s) ≡ d)
   item-fits s k m d e =
       let l = lawful on .there s k m d e in
       (lawful on .some s k m d e, lawful on .within s k m d e, l, omega (arith, by-few on s k m d e, cap-fits on), length-take-le d s l)
 
-  pub wait-fits : (s : List ℕ) → settle on s ≡ More → length s ≤ 67
+  pub wait-fits : (s : List ℕ) → settle on s ≡ More → length s ≤ heldRoom
   wait-fits s e = omega (arith, waits-few on s e, cap-fits on)
 
   -- a feeding call where nothing is held
-  pub begins : (p : List ℕ) (k m d : ℕ) (r : Given) → settle on p ≡ Settled k m d → r ≡ cutOf (take d p) m d k → r ≡ givenOf p (feed (settle on) [] p)
+  pub begins : (p : List ℕ) (k m d : ℕ) (r : Given) → settle on p ≡ Settled k m d → r ≡ cutOf (take d p) m d k
+      → r ≡ givenOf p (feed (settle on) [] p)
   begins p k m d r e q = q ∙ rw (begin-item on p k m d e)
 
   pub begins-not : (p : List ℕ) (r : Given) → settle on p ≡ More → r ≡ nothingOf p (length p) → r ≡ givenOf p (feed (settle on) [] p)
@@ -59,10 +83,16 @@ module _ (on : Line) where
 
   -- a feeding call where the bytes held settle nothing, and the window stands at the front of an array
   module _ (h p : List ℕ) (w : Window) (waits : settle on h ≡ More) (joined : Joined (windowOf on h p) w) where
-    pub window-fits : (length h ≤ w .len) × (w .len ≤ length (w .bytes)) × (w .len ≡ length (take (w .len) (w .bytes))) × (w .len ≤ 68)
+    pub window-fits : (length h ≤ w .len) × (w .len ≤ length (w .bytes)) × (w .len ≡ length (take (w .len) (w .bytes)))
+        × (w .len ≤ itemRoom)
     window-fits =
-        let l : w .len ≤ length (w .bytes) = omega (arith, joined .count, joined .room, length-take (suc (capOf on)) (h ++ p), cap-fits on) in
-        (omega (arith, joined .count, length-take (suc (capOf on)) (h ++ p), length-append h p, waits-few on h waits), l, sym (length-take-le (w .len) (w .bytes) l), omega (arith, joined .room))
+        let n = length-take (suc (capOf on)) (h ++ p) in
+        let l : w .len ≤ length (w .bytes) = omega (arith, joined .count, joined .room, cap-fits on) in (
+          omega (arith, joined .count, length-append h p, waits-few on h waits),
+          l,
+          sym (length-take-le (w .len) (w .bytes) l),
+          omega (arith, joined .room),
+        )
 
     pub window-takes : (k m d : ℕ) → settle on (take (w .len) (w .bytes)) ≡ Settled k m d → length h ≤ d
     window-takes k m d e = resume-takes on h p waits k m d (rw (joined .front) at e)
@@ -80,34 +110,34 @@ module _ (on : Line) where
 
   -- the calls of a state whose first n bytes are held
   module _ (h : Held) (n : ℕ) (en : n ≡ length (heldOf on h)) where
-    pub front-fits : length (h .bytes) ≡ 67 → (n ≤ 67) × (n ≤ length (h .bytes)) × (n ≡ length (take n (h .bytes)))
+    pub front-fits : length (h .bytes) ≡ heldRoom → (n ≤ heldRoom) × (n ≤ length (h .bytes)) × (n ≡ length (take n (h .bytes)))
     front-fits l =
-        let f : n ≤ 67 = omega (arith, held-few on h, cap-fits on) in
+        let f : n ≤ heldRoom = omega (arith, held-few on h, cap-fits on) in
         (f, omega arith, sym (length-take-le n (h .bytes) (omega arith)))
 
     -- feeding
-    pub feeds : (p : List ℕ) (r : Given) → r ≡ givenOf p (feed (settle on) (take n (h .bytes)) p) → r ≡ fedAfter on h p
-    unfolding fedAfter
-    feeds p r q = q ∙ rw (held-front on h n en)
+    pub feeds : (p : List ℕ) (r : Given) → r ≡ givenOf p (feed (settle on) (take n (h .bytes)) p) → Feeds on h p r
+    feeds p r q = feeds-by on h p r (q ∙ rw (held-front on h n en))
 
-    pub feeds-none : (p : List ℕ) (r : Given) → n ≡ 0 → r ≡ givenOf p (feed (settle on) [] p) → r ≡ fedAfter on h p
+    pub feeds-none : (p : List ℕ) (r : Given) → n ≡ 0 → r ≡ givenOf p (feed (settle on) [] p) → Feeds on h p r
     feeds-none p r z q = feeds p r (q ∙ rw z)
 
-    pub feeds-held : (p : List ℕ) (k m d : ℕ) (r : Given) → settle on (take n (h .bytes)) ≡ Settled k m d → r ≡ cutOf (take n (h .bytes)) m 0 k → r ≡ fedAfter on h p
+    pub feeds-held : (p : List ℕ) (k m d : ℕ) (r : Given) → settle on (take n (h .bytes)) ≡ Settled k m d
+        → r ≡ cutOf (take n (h .bytes)) m 0 k
+        → Feeds on h p r
     feeds-held p k m d r e q = feeds p r (q ∙ rw (feed-settled (settle on) (take n (h .bytes)) p 0 k m d e))
 
     -- closing
-    pub closes-empty : (r : Given) → n ≡ 0 → r ≡ nothingOf [] 0 → r ≡ closedAfter on h
-    unfolding closedAfter
-    closes-empty r z q = q ∙ rw (close-none (settle on) (heldOf on h) (sym en ∙ z))
+    pub closes-item : (a : At) (k m : ℕ) (r : Given) → saidAt a ≡ itemAt on true (take n (h .bytes)) → a ≡ At·Item k m
+        → r ≡ cutOf (take n (h .bytes)) m 0 k → Closes on h r
+    closes-item a k m r e f q =
+        let w = stands-at on true (take n (h .bytes)) k m (sym e ∙ ap saidAt f) in
+        let l : 1 ≤ length (take n (h .bytes)) = omega (arith, w .2, w .3) in
+        let l′ : 1 ≤ length (heldOf on h) = rw (held-front on h n en) at l in
+        closes-by on h r (q ∙ rw (w .0, w .1, held-front on h n en, close-some (settle on) (heldOf on h) l′))
 
-    closes : (r : Given) → (n ≡ 0 → ⊥) → r ≡ cutOf (take n (h .bytes)) (sizeOf (settle on (take n (h .bytes)))) 0 (numberOf (settle on (take n (h .bytes))))
-        → r ≡ closedAfter on h
-    unfolding closedAfter
-    closes r z q = q ∙ rw (held-front on h n en, close-some (settle on) (heldOf on h) (omega arith))
-
-    pub closes-item : (k m d : ℕ) (r : Given) → (n ≡ 0 → ⊥) → settle on (take n (h .bytes)) ≡ Settled k m d → r ≡ cutOf (take n (h .bytes)) m 0 k → r ≡ closedAfter on h
-    closes-item k m d r z e q = closes r z (q ∙ rw e)
-
-    pub closes-short : (r : Given) → (n ≡ 0 → ⊥) → settle on (take n (h .bytes)) ≡ More → r ≡ cutOf (take n (h .bytes)) 1 0 1 → r ≡ closedAfter on h
-    closes-short r z e q = closes r z (q ∙ rw e)
+    pub closes-nothing : (a : At) (r : Given) → saidAt a ≡ itemAt on true (take n (h .bytes)) → a ≡ At·Nothing
+        → r ≡ nothingOf (take n (h .bytes)) 0 → Closes on h r
+    closes-nothing a r e f q =
+        let z = none-left on (heldOf on h) (rw (held-front on h n en) at (sym e ∙ ap saidAt f)) in
+        closes-by on h r (q ∙ rw (held-front on h n en, z, close-none (settle on) [] refl))

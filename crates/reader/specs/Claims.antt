@@ -11,11 +11,11 @@ use Rattle.line.specs.declared.Line.{Line}
 use Rattle.line.specs.declared.Line.the-variants.{Request, Reply}
 use Rattle.line.specs.Line.{capOf}
 use Rattle.reader.specs.declared.Held.{Held}
-use Rattle.reader.specs.Reader.{heldOf, hold}
+use Rattle.reader.specs.Reader.{heldRoom, heldOf, hold}
 use Rattle.reader.specs.Arrays.{take-pad}
 
 -- the store has room for either line
-pub cap-fits : (on : Line) → capOf on ≤ 67
+pub cap-fits : (on : Line) → capOf on ≤ heldRoom
 cap-fits Request = omega arith
 cap-fits Reply = omega arith
 
@@ -34,7 +34,7 @@ module _ (on : Line) (h : Held) where
   unfolding heldOf
   held-over l = simp (lt-leb (h .len) (capOf on) l)
 
-  pub holds-in : length (h .bytes) ≡ 67 → h .len ≤ capOf on → h .len ≡ length (heldOf on h)
+  pub holds-in : length (h .bytes) ≡ heldRoom → h .len ≤ capOf on → h .len ≡ length (heldOf on h)
   holds-in e l = rw held-in (simp length-take (omega (arith, cap-fits on)))
 
   -- it holds no more than its line's reader can
@@ -55,4 +55,4 @@ module _ (on : Line) (h : Held) where
 
 -- a state that a call leaves holds what was put into it
 pub hold-holds : (on : Line) (l : List ℕ) → length l ≤ capOf on → heldOf on (hold l) ≡ l
-hold-holds on l h = held-in on (hold l) h ∙ take-pad 67 l
+hold-holds on l h = held-in on (hold l) h ∙ take-pad heldRoom l

@@ -4,22 +4,23 @@ use Prim.Native.Nat.{ℕ, suc, _+_, _-_, _≤_, _<_}
 use mathlib.Core.Path.{_≡_, refl, sym, ap, _∙_}
 use mathlib.Core.Bool.{Bool, true, false}
 use mathlib.Core.List.{List, [], _++_}
-use lib.ListN.{length, take, drop, length-append}
-use lib.Seq.{take-append-add, take-all, take-take, take-length, length-take-le, paste, take-paste, length-paste}
+use lib.ListN.{length, take, drop, replicate, length-append}
+use lib.Seq.{take-append-add, take-all, take-take, length-take-le}
 use lib.Dec.{ltb}
 use borrow.Author.Tests.{ltb-true, ltb-false}
 use native.Mathlib.Nat.{sub-zero}
 use native.Mathlib.Omega.{arith}
-use Rattle.stream.specs.declared.Step.the-variants.{More, Item as Settled}
-use Rattle.stream.specs.Stream.{reading, nothing, found, feed}
+use Rattle.lent.specs.Puts.{Puts}
+use Rattle.stream.specs.Stream.{More, Settled}
+use Rattle.stream.specs.Stream.{reading, nothingYet, found, feed}
 use Rattle.stream.specs.Fewest.{feed-once, held-waits}
 use Rattle.line.specs.declared.Line.{Line}
 use Rattle.line.specs.Line.{capOf}
 use Rattle.line.specs.Rule.{settle}
 use Rattle.line.specs.Laws.{lawful, waits-few, by-few, in-window}
 use Rattle.reader.specs.declared.Window.{Window}
-use Rattle.reader.specs.Reader.{pad}
-use Rattle.reader.specs.Arrays.{length-pad, take-pad}
+use Rattle.reader.specs.Reader.{itemRoom, pad}
+use Rattle.reader.specs.Arrays.{length-pad, take-pad, filled-then}
 use Rattle.reader.specs.Claims.{cap-fits}
 
 abbrev pub windowOf : Line → List ℕ → List ℕ → List ℕ
@@ -29,14 +30,15 @@ windowOf on h p = take (suc (capOf on)) (h ++ p)
 pub record Joined (s : List ℕ) (r : Window) : Type 0 where
   pub front : take (r .len) (r .bytes) ≡ s
   pub count : r .len ≡ length s
-  pub room : length (r .bytes) ≡ 68
+  pub room : length (r .bytes) ≡ itemRoom
 
 module _ (on : Line) where
   -- nothing is held
-  pub begin-item : (p : List ℕ) (k m d : ℕ) → settle on p ≡ Settled k m d → feed (settle on) [] p ≡ found d (reading k (take m (take d p))) (drop m (take d p))
+  pub begin-item : (p : List ℕ) (k m d : ℕ) → settle on p ≡ Settled k m d
+      → feed (settle on) [] p ≡ found d (reading k (take m (take d p))) (drop m (take d p))
   begin-item p k m d e = feed-once (settle on) (lawful on) [] p ∙ rw (e, sub-zero)
 
-  pub begin-nothing : (p : List ℕ) → settle on p ≡ More → feed (settle on) [] p ≡ nothing p
+  pub begin-nothing : (p : List ℕ) → settle on p ≡ More → feed (settle on) [] p ≡ nothingYet p
   begin-nothing p e = feed-once (settle on) (lawful on) [] p ∙ rw e
 
   -- the bytes held, and as many of the part as there are or as there is room for
@@ -56,24 +58,21 @@ module _ (on : Line) where
           let q : length h + t ≡ suc (capOf on) = omega arith in
           sym (take-append-add h p t) ∙ rw q
 
-  -- an array filled with them
-  pub joins : (h p a b : List ℕ) (t : ℕ) → length h ≤ capOf on → t ≤ length p → t ≤ suc (capOf on) - length h
-      → (t < suc (capOf on) - length h → t ≡ length p) → a ≡ pad 68 h → b ≡ paste a (length h) (take t p) (length (take t p))
-      → Joined (windowOf on h p) (record { bytes = b; len = length h + t })
-  joins h p a b t fits lp lr short ea eb =
-      let e : b ≡ paste (pad 68 h) (length h) (take t p) (length (take t p)) = rw ea at eb in
-      let c = cap-fits on in
+  -- an array of zeros into which the two were put
+  pub joins : (h p a b : List ℕ) (t m r : ℕ) → length h ≤ capOf on → t ≤ length p → t ≤ suc (capOf on) - length h
+      → (t < suc (capOf on) - length h → t ≡ length p) → Puts h (replicate itemRoom 0) 0 m a → Puts (take t p) a m r b
+      → Joined (windowOf on h p) (record { bytes = b; len = r })
+  joins h p a b t m r fits lp lr short first then =
       let n : length (take t p) ≡ t = length-take-le t p lp in
-      let lh : length (pad 68 h) ≡ 68 = length-pad 68 h (omega arith) in
-      let f : take (length h + length (take t p)) b ≡ h ++ take t p =
-      ap (take (length h + length (take t p))) e
-      ∙ take-paste (pad 68 h) (length h) (take t p) (length (take t p)) (omega arith) (omega arith)
-      ∙ rw (take-pad 68 h, take-length (take t p)) in
-      let w = window-is h p t fits lp lr short in
+      let w : h ++ take t p ≡ windowOf on h p = window-is h p t fits lp lr short in
+      let room : length h + length (take t p) ≤ itemRoom = omega (arith, cap-fits on) in
+      let f = filled-then itemRoom h (take t p) m r a b room first then in
+      let e : b ≡ pad itemRoom (windowOf on h p) = rw w at (f .1) in
+      let c : r ≡ length (windowOf on h p) = rw w at (f .0) in
       record {
-        front = rw n at f ∙ w;
-        count = omega (arith, ap length w, length-append h (take t p));
-        room = ap length e ∙ length-paste (pad 68 h) (length h) (take t p) (length (take t p)) (omega arith) (omega arith) ∙ lh;
+        front = rw (c, e) (take-pad itemRoom (windowOf on h p));
+        count = c;
+        room = ap length e ∙ length-pad itemRoom (windowOf on h p) (omega (arith, c, f .0, length-append h (take t p)));
       }
 
   module _ (h p : List ℕ) (waits : settle on h ≡ More) where
@@ -92,7 +91,8 @@ module _ (on : Line) where
         let a : settle on (h ++ p) ≡ Settled k m d = sym (in-window on (h ++ p)) ∙ e in
         feed-once (settle on) (lawful on) h p ∙ rw (a, front-of d (resume-takes k m d e) (by-few on (h ++ p) k m d a))
 
-    pub resume-nothing : settle on (windowOf on h p) ≡ More → (feed (settle on) h p ≡ nothing (windowOf on h p)) × (length (windowOf on h p) ≡ length h + length p)
+    pub resume-nothing : settle on (windowOf on h p) ≡ More
+        → (feed (settle on) h p ≡ nothingYet (windowOf on h p)) × (length (windowOf on h p) ≡ length h + length p)
     resume-nothing e =
         let a : settle on (h ++ p) ≡ More = sym (in-window on (h ++ p)) ∙ e in
         let l : length (h ++ p) ≤ suc (capOf on) = omega (arith, waits-few on (h ++ p) a) in

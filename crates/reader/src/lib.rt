@@ -7,24 +7,29 @@
 // - where they do not, these and of the part so many that the line's most held bytes and one are there (68 on a reply line,
 //   11 on a request line), or as many as there are, once into a window; and from there the bytes then read or held, once.
 // A state and an answer hold arrays (67 and 68 bytes), which go by value and are zero behind what they hold.
-ghost use Prim.Native.Nat.{_+_, _≤_};
+ghost use Prim.Native.Nat.{_≤_};
 ghost use mathlib.Core.Path.{_≡_};
 ghost use mathlib.Core.List.{[]};
 ghost use lib.ListN.{length};
-ghost use lib.Seq.{paste};
-ghost use Rattle.stream.specs.declared.Step.the-variants.{More};
-ghost use Rattle.stream.specs.Stream.{feed as feedOf};
+ghost use Rattle.stream.specs.Stream.{More, feed as feedOf};
 ghost use Rattle.line.specs.Line.{capOf};
 ghost use Rattle.line.specs.Rule.{settle};
-ghost use Rattle.reader.specs.Reader.{pad, heldOf, hold, givenOf, fedAfter, closedAfter, nothingOf, cutOf};
+ghost use Rattle.reader.specs.Reader.{heldRoom, itemRoom, pad, heldOf, hold, givenOf, nothingOf, Feeds, Closes};
 ghost use Rattle.reader.specs.Window.{Joined, windowOf};
+ghost use Rattle.reader.specs.Calls.{cutOf};
+use line::At;
 use line::Line;
 use stream::Step;
+
+// The places of an item and of a state: those of the longest reply, and one less.
+pub const ITEM_ROOM: usize = line::REPLY_LONGEST;
+
+pub const HELD_ROOM: usize = line::REPLY_LONGEST - 1;
 
 // A reader between two calls: how many bytes it holds, and these in front. What lies behind them is 0 in every state that
 // a call leaves, and is not looked at.
 pub struct Held {
-    pub bytes: [u8; 67],
+    pub bytes: [u8; HELD_ROOM],
     pub len: usize,
 }
 
@@ -41,12 +46,12 @@ pub struct Given {
     pub taken: usize,
     pub got: Got,
     pub count: usize,
-    pub bytes: [u8; 68],
+    pub bytes: [u8; ITEM_ROOM],
 }
 
 // Some bytes, at the front of an array.
 struct Window {
-    bytes: [u8; 68],
+    bytes: [u8; ITEM_ROOM],
     len: usize,
 }
 
@@ -55,7 +60,7 @@ pub fn fresh() -> Held
     ensures { λ r. ⌜ r ≡ hold [] ⌝ }
 {
     Held {
-        bytes: [0u8; 67],
+        bytes: [0u8; HELD_ROOM],
         len: 0,
     }
 }
@@ -70,54 +75,32 @@ fn holds(line: Line, h: Held) -> usize
 }
 
 // The bytes of a run, and zeros behind them. (Most items of a noisy line have one byte.)
-fn wide(s: &[u8]) -> [u8; 68]
-    requires { ⌜ length (now s) ≤ 68 ⌝ }
-    ensures { λ r. ⌜ r ≡ pad 68 (now (s .entry)) ⌝ }
+fn wide(s: &[u8]) -> [u8; ITEM_ROOM]
+    requires { ⌜ length (now s) ≤ itemRoom ⌝ }
+    ensures { λ r. ⌜ r ≡ pad itemRoom (now (s .entry)) ⌝ }
 {
-    let mut b = [0u8; 68];
+    let mut bytes = [0u8; ITEM_ROOM];
     if s.len() == 1 {
-        b[0] = s[0];
-        return b;
+        lent::byte(&mut bytes, 0, s[0]);
+        return bytes;
     }
-    let mut i: usize = 0;
-    while i < s.len() {
-        b[i] = s[i];
-        i += 1;
-    }
-    b
+    lent::word(&mut bytes, 0, s);
+    bytes
 }
 
 // A reader that holds the bytes of a run.
 fn kept(s: &[u8]) -> Held
-    requires { ⌜ length (now s) ≤ 67 ⌝ }
+    requires { ⌜ length (now s) ≤ heldRoom ⌝ }
     ensures { λ r. ⌜ r ≡ hold (now (s .entry)) ⌝ }
 {
-    let mut b = [0u8; 67];
-    let mut i: usize = 0;
-    while i < s.len() {
-        b[i] = s[i];
-        i += 1;
-    }
-    Held { bytes: b, len: i }
+    let mut bytes = [0u8; HELD_ROOM];
+    let len = lent::word(&mut bytes, 0, s);
+    Held { bytes, len }
 }
 
-// The first n bytes of an array, and those of a run behind them.
-fn append(start: [u8; 68], n: usize, s: &[u8]) -> [u8; 68]
-    requires { ⌜ n + length (now s) ≤ 68 ⌝ }
-    ensures { λ r. ⌜ r ≡ paste start n (now (s .entry)) (length (now (s .entry))) ⌝ }
-{
-    let mut b = start;
-    let mut i: usize = 0;
-    while i < s.len() {
-        b[n + i] = s[i];
-        i += 1;
-    }
-    b
-}
-
-// The first m bytes of a run as an item; the others are held.
+// The first m bytes of a run as an item; the others are held. (Mostly there are none.)
 fn cut(s: &[u8], m: usize, taken: usize, number: u8) -> Given
-    requires { ⌜ (1 ≤ m) × (m ≤ length (now s)) × (length (now s) ≤ 68) ⌝ }
+    requires { ⌜ (1 ≤ m) × (m ≤ length (now s)) × (length (now s) ≤ itemRoom) ⌝ }
     ensures { λ r. ⌜ r ≡ cutOf (now (s .entry)) m taken number ⌝ }
 {
     let bytes = wide(&s[..m]);
@@ -142,7 +125,7 @@ fn cut(s: &[u8], m: usize, taken: usize, number: u8) -> Given
 
 // No item: the bytes of a run are held.
 fn nothing(s: &[u8], taken: usize) -> Given
-    requires { ⌜ length (now s) ≤ 67 ⌝ }
+    requires { ⌜ length (now s) ≤ heldRoom ⌝ }
     ensures { λ r. ⌜ r ≡ nothingOf (now (s .entry)) taken ⌝ }
 {
     let held = kept(s);
@@ -151,7 +134,7 @@ fn nothing(s: &[u8], taken: usize) -> Given
         taken,
         got: Got::Nothing,
         count: 0,
-        bytes: [0u8; 68],
+        bytes: [0u8; ITEM_ROOM],
     }
 }
 
@@ -171,11 +154,12 @@ fn join(line: Line, held: &[u8], part: &[u8]) -> Window
     requires { ⌜ length (now held) ≤ capOf line ⌝ }
     ensures { λ r. ⌜ Joined (windowOf line (now (held .entry)) (now (part .entry))) r ⌝ }
 {
-    let n = held.len();
-    let room = line::most(line) + 1 - n;
+    let room = line::most(line) + 1 - held.len();
     let t = if part.len() < room { part.len() } else { room };
-    let bytes = append(wide(held), n, &part[..t]);
-    Window { bytes, len: n + t }
+    let mut bytes = [0u8; ITEM_ROOM];
+    let n = lent::word(&mut bytes, 0, held);
+    let len = lent::word(&mut bytes, n, &part[..t]);
+    Window { bytes, len }
 }
 
 // A feeding call where the bytes held settle nothing.
@@ -197,7 +181,7 @@ fn resume(line: Line, held: &[u8], part: &[u8]) -> Given
 
 // Takes the fewest bytes of a part that settle the next item, and gives it; or takes them all, where none is settled.
 pub fn feed(line: Line, h: Held, part: &[u8]) -> Given
-    ensures { λ r. ⌜ r ≡ fedAfter line h (now (part .entry)) ⌝ }
+    ensures { λ r. ⌜ Feeds line h (now (part .entry)) r ⌝ }
 {
     let n = holds(line, h);
     if n == 0 {
@@ -214,24 +198,14 @@ pub fn feed(line: Line, h: Held, part: &[u8]) -> Given
 
 // The next item of the bytes held, as if the line ended behind them; or a fresh reader, where nothing is held.
 pub fn close(line: Line, h: Held) -> Given
-    ensures { λ r. ⌜ r ≡ closedAfter line h ⌝ }
+    ensures { λ r. ⌜ Closes line h r ⌝ }
 {
     let n = holds(line, h);
-    if n == 0 {
-        let held = fresh();
-        return Given {
-            held,
-            taken: 0,
-            got: Got::Nothing,
-            count: 0,
-            bytes: [0u8; 68],
-        };
-    }
     let bytes = h.bytes;
     let held = &bytes[..n];
-    let step = line::settled(line, held);
-    match step {
-        Step::Item(k, m, _) => cut(held, m, 0, k),
-        Step::More => cut(held, 1, 0, 1),
+    let at = line::item_at(line, true, held);
+    match at {
+        At::Item(k, m) => cut(held, m, 0, k),
+        At::Nothing => nothing(held, 0),
     }
 }

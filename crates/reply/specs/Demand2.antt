@@ -9,12 +9,13 @@ use lib.Dec.{leb, eqb}
 use borrow.Author.Tests.{leb-true, eqb-true, eq-eqb, le-leb}
 use native.Mathlib.Omega.{arith}
 use Rattle.refusal.specs.Answer.{Answer, full, demand-elim, full-one}
+use Rattle.lead.specs.Lead.{isReply, replyData}
 use Rattle.sum.specs.Bytes.{Bytes, bytes-cons, bytes-head, bytes-tail, bytes-take, bytes-drop}
 use Rattle.sum.specs.Sum.{sumOf}
 use Rattle.frame.specs.Demand2 as family
 use Rattle.frame.specs.Demand2.{Demand2, demand2}
 use Rattle.frame.specs.Frame.{byte, sealed-sum, sealed-length, sealed-bytes, opened}
-use Rattle.reply.specs.Layout.{Fields, reply, isReply, InRange, reply-fits, head, layout}
+use Rattle.reply.specs.Layout.{Fields, reply, InRange, reply-fits, least, dataAt, head, layout}
 use Rattle.reply.specs.Reading.{readReply, fieldsOf}
 use Rattle.reply.specs.Writing.{replyFrame}
 use Rattle.reply.specs.declared.Reply.{Reply}
@@ -27,16 +28,17 @@ abbrev Reads : List ℕ → Fields → Type 0
 Reads d f = family.Reads InRange layout readReply fieldsOf InRange frameOf d f
 
 -- each layout reads as its fields
-reply-reads : (t s : ℕ) (l : List ℕ) → isReply t ≡ true → length l ≤ 64 → Reads (layout (reply t s l)) (reply t s l)
+reply-reads : (t s : ℕ) (l : List ℕ) → isReply t ≡ true → length l ≤ replyData → Reads (layout (reply t s l)) (reply t s l)
 unfolding readReply
 reply-reads t s l h m =
     let x : List ℕ = layout (reply t s l) in
-    let n : length x ≡ length l + 4 = omega (arith, sealed-length (head (reply t s l))) in
-    let four : 4 ≤ length x = omega arith in
+    let n : length x ≡ length l + least = omega (arith, sealed-length (head (reply t s l))) in
+    let four : least ≤ length x = omega arith in
     let z : sumOf x ≡ 0 = sealed-sum (head (reply t s l)) in
     record {
       reading = record { kind = t; sequence = s; n = length l };
-      accepted = rw (le-leb 4 (length x) four, h, le-leb (length l) 64 m, eq-eqb (length x) (length l + 4) n, eq-eqb (sumOf x) 0 z);
+      accepted =
+          rw (le-leb least (length x) four, h, le-leb (length l) replyData m, eq-eqb (length x) (length l + least) n, eq-eqb (sumOf x) 0 z);
       fields = ap (reply t s) (take-append-seam l (sumOf (head (reply t s l)) ∷ []));
     }
 
@@ -45,38 +47,40 @@ read-written : (f : Fields) (x : List ℕ) → frameOf f ≡ full x → Reads x 
 unfolding replyFrame
 read-written (reply t s l) x =
     demand-elim (isReply t) 2
-    (λ h. demand-elim (leb (length l) 64) 4
-    (λ m e. let o : layout (reply t s l) ≡ x = full-one e in rw o at (reply-reads t s l h (leb-true (length l) 64 m))))
+    (λ h. demand-elim (leb (length l) replyData) 4
+    (λ m e. let o : layout (reply t s l) ≡ x = full-one e in rw o at (reply-reads t s l h (leb-true (length l) replyData m))))
 
 -- in range: the frame is the layout
 in-range-written : (f : Fields) → InRange f → frameOf f ≡ full (layout f)
 unfolding replyFrame
-in-range-written (reply t s l) (reply-fits h m b) = rw (h, le-leb (length l) 64 m)
+in-range-written (reply t s l) (reply-fits h m b) = rw (h, le-leb (length l) replyData m)
 
 -- an accepted datagram is a frame: the fields that it gives are in range, and it is their layout
 accepted-frame : (d : List ℕ) (r : Reply) → Bytes d → readReply d ≡ full r → InRange (fieldsOf r d) × (d ≡ layout (fieldsOf r d))
 unfolding readReply
 accepted-frame d r bs =
-    demand-elim (leb 4 (length d)) 1
+    demand-elim (leb least (length d)) 1
     (λ h₁. demand-elim (isReply (byte 0 d)) 2
-    (λ h₂. demand-elim (leb (byte 2 d) 64) 4
-    (λ h₄. demand-elim (eqb (length d) (byte 2 d + 4)) 5
+    (λ h₂. demand-elim (leb (byte 2 d) replyData) 4
+    (λ h₄. demand-elim (eqb (length d) (byte 2 d + least)) 5
     (λ h₅. demand-elim (eqb (sumOf d) 0) 6
     (λ h₆ e.
     let n : ℕ = byte 2 d in
-    let long = eqb-true (length d) (n + 4) h₅ in
-    let l : List ℕ = take n (drop 3 d) in
+    let long = eqb-true (length d) (n + least) h₅ in
+    let l : List ℕ = take n (drop dataAt d) in
     let size : length l ≡ n = simp (length-take, length-drop) (omega arith) in
-    let o : d ≡ layout (reply (byte 0 d) (byte 1 d) l) = rw size (opened 3 n d (omega arith) (eqb-true (sumOf d) 0 h₆)) in
-    let m = leb-true n 64 h₄ in
-    let b : Bytes (byte 0 d ∷ byte 1 d ∷ l) = bytes-cons (bs .byte 0) (bytes-cons (bs .byte 1) (bytes-take n (drop 3 d) (bytes-drop 3 d bs))) in
-    let short : length l ≤ 64 = omega arith in
+    let o : d ≡ layout (reply (byte 0 d) (byte 1 d) l) = rw size (opened dataAt n d (omega arith) (eqb-true (sumOf d) 0 h₆)) in
+    let m = leb-true n replyData h₄ in
+    let part : Bytes l = bytes-take n (drop dataAt d) (bytes-drop dataAt d bs) in
+    let b : Bytes (byte 0 d ∷ byte 1 d ∷ l) = bytes-cons (bs .byte 0) (bytes-cons (bs .byte 1) part) in
+    let short : length l ≤ replyData = omega arith in
     rw (← full-one e) (reply-fits h₂ short b, o))))))
 
 -- each frame is a run of bytes
 frame-bytes : (f : Fields) → InRange f → Bytes (layout f)
 frame-bytes (reply t s l) (reply-fits h m b) =
-    sealed-bytes (bytes-cons (bytes-head b) (bytes-cons (bytes-head (bytes-tail b)) (bytes-cons {b = length l} (omega arith) (bytes-tail (bytes-tail b)))))
+    let rest = bytes-tail b in
+    sealed-bytes (bytes-cons (bytes-head b) (bytes-cons (bytes-head rest) (bytes-cons {b = length l} (omega arith) (bytes-tail rest))))
 
 -- whose exclusive-or is 0, and is accepted
 frame-sum : (f : Fields) → InRange f → sumOf (layout f) ≡ 0

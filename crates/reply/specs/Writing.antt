@@ -4,7 +4,8 @@ use mathlib.Core.List.{List}
 use lib.ListN.{length}
 use lib.Dec.{leb}
 use Rattle.refusal.specs.Answer.{Answer, full, demand}
-use Rattle.reply.specs.Layout.{reply, isReply, layout}
+use Rattle.lead.specs.Lead.{isReply, replyData}
+use Rattle.reply.specs.Layout.{reply, layout}
 
 unfoldable pub replyFrame : ℕ → ℕ → List ℕ → Answer (List ℕ)
-replyFrame t s l = demand (isReply t) 2 (demand (leb (length l) 64) 4 (full (layout (reply t s l))))
+replyFrame t s l = demand (isReply t) 2 (demand (leb (length l) replyData) 4 (full (layout (reply t s l))))

@@ -1,13 +1,25 @@
-// Replies as single datagrams: read, their data part and error code, and written into a lent buffer.
+// Replies as single datagrams: read, their data part and error code, written into a lent buffer, and relayed. It leans on lead for the
+// types and the most data, on error for the names of codes, on sum and frame for the sum and the last step of writing.
 // Document 01, "Frames"; source 002, "TPI Advanced Response Frame" and "Error Codes".
+ghost use Prim.Native.Nat.{_+_};
 ghost use mathlib.Core.Path.{_≡_};
+ghost use denote.Ref.{ptr};
 ghost use Rattle.refusal.specs.Answer.{full};
 ghost use Rattle.error.specs.Error.{nameOf};
 ghost use Rattle.frame.specs.Written.{Written};
-ghost use Rattle.reply.specs.Reading.{said, saidCode, readReply, dataOf, codeNamed, codeOf};
+ghost use Rattle.frame.specs.Relay.{relayed};
+ghost use Rattle.reply.specs.Reading.{said, saidCode, readReply, dataOf, dataStart, codeNamed, codeOf};
 ghost use Rattle.reply.specs.Writing.{replyFrame};
 use error::Name;
 use frame::Wrote;
+
+// "Reply, 4 + n bytes: type, sequence, n, n data bytes, sum": the least, and where the data begin.
+const LEAST: usize = 4;
+
+const DATA_AT: usize = 3;
+
+// "A3 ERROR"
+const ERROR: u8 = 0xA3;
 
 // A reply: its type, A0 OK, A1 ANSWER, A2 NO_ANSWER or A3 ERROR, its sequence number, and how many data bytes it has.
 pub struct Reply {
@@ -34,21 +46,18 @@ pub enum Code {
 pub fn read(s: &[u8]) -> Reading
     ensures { λ r. ⌜ said r ≡ readReply (now (s .entry)) ⌝ }
 {
-    if s.len() < 4 {
+    if s.len() < LEAST {
         return Reading::Refused(1);
     }
     let kind = s[0];
-    if kind < 0xA0 {
-        return Reading::Refused(2);
-    }
-    if 0xA3 < kind {
+    if !lead::is_reply(kind) {
         return Reading::Refused(2);
     }
     let n = s[2] as usize;
-    if 64 < n {
+    if lead::REPLY_DATA < n {
         return Reading::Refused(4);
     }
-    if s.len() != n + 4 {
+    if s.len() != n + LEAST {
         return Reading::Refused(5);
     }
     if sum::xor(s) != 0 {
@@ -63,15 +72,20 @@ pub fn read(s: &[u8]) -> Reading
 
 // The data of a reply, as that part of the caller's own datagram; empty where the datagram is refused.
 pub fn data(s: &[u8]) -> &[u8]
-    ensures { λ r. ⌜ now r ≡ dataOf (now (s .entry)) ⌝ }
+    ensures { λ r. ⌜ (now r ≡ dataOf (now (s .entry)))
+        × (ptr r .0 ≡ ptr (s .entry) .0)
+        × (ptr r .1 ≡ dataStart (now (s .entry)) + ptr (s .entry) .1) ⌝ }
 {
     let r = read(s);
     match r {
         Reading::Accepted(reply) => {
-            let e = reply.n + 3;
-            &s[3..e]
+            let e = reply.n + DATA_AT;
+            &s[DATA_AT..e]
         }
-        Reading::Refused(_) => &s[..0],
+        Reading::Refused(_) => {
+            let start = 0;
+            &s[start..start]
+        }
     }
 }
 
@@ -93,13 +107,13 @@ pub fn error_code(s: &[u8]) -> Code
     let r = read(s);
     match r {
         Reading::Accepted(reply) => {
-            if reply.kind != 0xA3 {
+            if reply.kind != ERROR {
                 return Code::Absent;
             }
             if reply.n == 0 {
                 return Code::Absent;
             }
-            named(s[3])
+            named(s[DATA_AT])
         }
         Reading::Refused(k) => Code::Refused(k),
     }
@@ -109,16 +123,28 @@ pub fn error_code(s: &[u8]) -> Code
 pub fn write(kind: u8, sequence: u8, data: &[u8], out: &mut [u8]) -> Wrote
     ensures { λ r. ⌜ Written (replyFrame kind sequence (now («data» .entry))) (now (out .entry)) r (now (out .exit)) ⌝ }
 {
-    if kind < 0xA0 {
-        return Wrote::Refused(2);
-    }
-    if 0xA3 < kind {
+    if !lead::is_reply(kind) {
         return Wrote::Refused(2);
     }
     let n = data.len();
-    if 64 < n {
+    if lead::REPLY_DATA < n {
         return Wrote::Refused(4);
     }
     let head = [kind, sequence, n as u8];
     frame::write(&head, data, out)
+}
+
+// Reads a reply and writes it again: an accepted datagram comes back byte for byte, 8 where the buffer is too short for it. Another gives
+// the refusal of its reading.
+pub fn relay(s: &[u8], out: &mut [u8]) -> Wrote
+    ensures { λ r. ⌜ Written (relayed (readReply (now (s .entry))) (now (s .entry))) (now (out .entry)) r (now (out .exit)) ⌝ }
+{
+    let r = read(s);
+    match r {
+        Reading::Accepted(reply) => {
+            let end = reply.n + DATA_AT;
+            write(reply.kind, reply.sequence, &s[DATA_AT..end], out)
+        }
+        Reading::Refused(k) => Wrote::Refused(k),
+    }
 }

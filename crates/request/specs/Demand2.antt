@@ -1,74 +1,66 @@
 -- Demand 2 for requests (crate frame says what it is).
-use Prim.Native.Nat.{ℕ, _<_}
+use Prim.Native.Nat.{ℕ, _/_, _%_, _<_}
 use mathlib.Core.Path.{_≡_, refl, sym, ap, _∙_}
 use mathlib.Core.Bool.{true}
 use mathlib.Core.List.{List, [], _∷_}
 use lib.ListN.{length}
-use lib.Dec.{leb, eqb}
-use borrow.Author.Tests.{eqb-true, eq-eqb}
+use lib.Dec.{leb, ltb, eqb}
+use borrow.Author.Tests.{eqb-true, eq-eqb, ltb-true, lt-ltb}
 use native.Mathlib.Omega.{arith}
 use Rattle.refusal.specs.Test.{clash}
-use Rattle.refusal.specs.Answer.{Answer, full, demand-elim, full-one}
+use Rattle.refusal.specs.Answer.{full, demand-elim, full-one}
 use Rattle.sum.specs.Bytes.{Bytes, bytes-none, bytes-cons, bytes-head, bytes-tail}
 use Rattle.sum.specs.Sum.{sumOf}
 use Rattle.frame.specs.Demand2 as family
 use Rattle.frame.specs.Demand2.{Demand2, demand2}
+use Rattle.frame.specs.Relay.{relayed}
+use Rattle.frame.specs.Written.{Written}
+use Rattle.frame.specs.declared.Wrote.{Wrote}
 use Rattle.frame.specs.Frame.{byte, sealed, sealed-sum, sealed-bytes, opened}
-use Rattle.order.specs.Order.{numberOf}
+use Rattle.order.specs.Big.{bigBytes}
+use Rattle.order.specs.Numbers.{number-of-bytes, bytes-of-number, number-below}
 use Rattle.command.specs.declared.Rule.{Rule}
 use Rattle.command.specs.declared.Shape.{Shape}
 use Rattle.command.specs.declared.Shape.the-variants.{Unknown, Basic, Unicast}
-use Rattle.command.specs.Command.{shapeOf, unicast-only}
+use Rattle.command.specs.Command.{shapeOf, numbersIn, mayWrite}
+use Rattle.command.specs.Known.{unicast-only, basic-known, unicast-known, known-may-write}
 use Rattle.command.specs.Arguments.{fits}
-use Rattle.request.specs.Layout.{Fields, basic, unicast, InRange, basic-fits, unicast-fits, head, layout, pair, high, low}
-use Rattle.request.specs.Meaning.{meaningOf}
-use Rattle.request.specs.Reading.{basicReading, unicastReading, readBasic, readUnicast, readShape, readRequest, fieldsOf, basic-accepts, shape-read}
-use Rattle.request.specs.Writing.{basicOf, basicFrame, unicastFrame}
-use Rattle.request.specs.declared.Request.{Request}
-
--- the frame that the writers are to write for some fields, or the refusal that they are to give
-abbrev pub frameOf : Fields → Answer (List ℕ)
-frameOf (basic s k a b c d) = basicFrame s k (record { a = a; b = b; c = c; d = d })
-frameOf (unicast s port i j k l) = unicastFrame s port (record { 0 = i; 1 = j; 2 = k; 3 = l })
+use Rattle.meaning.specs.Meaning.{pair, meaningOf}
+use Rattle.request.specs.Layout.{Fields, basic, unicast, InRange, basic-fits, unicast-fits, commandIn, Writable, head, layout}
+use Rattle.request.specs.Said.{Heard, fieldsOf}
+use Rattle.request.specs.Reading.{basicHeard, unicastHeard, readBasic, readUnicast, readShape, readRequest}
+use Rattle.request.specs.Reads.{basic-accepts, shape-read}
+use Rattle.request.specs.Writing.{basicOf, writerOf, frameOf}
 
 -- the datagram is accepted, and gives these fields
 abbrev Reads : List ℕ → Fields → Type 0
-Reads d f = family.Reads InRange layout readRequest (λ r x. fieldsOf r) InRange frameOf d f
-
-pair-high : (h l : ℕ) → h < 256 → l < 256 → high (pair h l) ≡ h
-unfolding numberOf
-pair-high h l a b = omega arith
-
-pair-low : (h l : ℕ) → l < 256 → low (pair h l) ≡ l
-unfolding numberOf
-pair-low h l b = omega arith
-
-pair-fits : (h l : ℕ) → h < 256 → l < 256 → pair h l < 65536
-unfolding numberOf
-pair-fits h l a b = omega arith
+Reads d f = family.Reads InRange layout readRequest (λ r x. fieldsOf r) Writable frameOf d f
 
 -- each layout reads as its fields
-basic-reads : (rule : Rule) (s k a b c d : ℕ) → shapeOf k ≡ Basic rule → fits rule a b c d ≡ true → Reads (layout (basic s k a b c d)) (basic s k a b c d)
+basic-reads : (rule : Rule) (s k a b c d : ℕ) → shapeOf k ≡ Basic rule → fits rule a b c d ≡ true
+    → Reads (layout (basic s k a b c d)) (basic s k a b c d)
 basic-reads rule s k a b c d h f =
     let x : List ℕ = layout (basic s k a b c d) in
     record {
-      reading = basicReading rule s k a b c d;
+      reading = basicHeard rule s k a b c d;
       accepted =
           sym
-          (shape-read x (Basic rule) (full (basicReading rule s k a b c d)) (omega arith) refl (sym h)
+          (shape-read x (Basic rule) (full (basicHeard rule s k a b c d)) (omega arith) refl (sym h)
           (basic-accepts rule x (meaningOf rule a b c d) refl (sealed-sum (head (basic s k a b c d))) f refl));
       fields = refl;
     }
 
-unicast-reads : (s port i j k l : ℕ) → Reads (layout (unicast s port i j k l)) (unicast s port i j k l)
-unfolding readUnicast shapeOf numberOf
-unicast-reads s port i j k l =
+unicast-reads : (s port i j k l : ℕ) → port < 65536 → Reads (layout (unicast s port i j k l)) (unicast s port i j k l)
+unfolding readUnicast shapeOf numbersIn
+unicast-reads s port i j k l p =
     let x : List ℕ = layout (unicast s port i j k l) in
     let z : sumOf x ≡ 0 = sealed-sum (head (unicast s port i j k l)) in
-    let e : pair (high port) (low port) ≡ port = omega arith in
     record {
-      reading = unicastReading s 0x40 port i j k l;
-      accepted = sym (shape-read x Unicast (full (unicastReading s 0x40 port i j k l)) (omega arith) refl refl (rw (eq-eqb (sumOf x) 0 z, e)));
+      reading = unicastHeard s 0x40 port i j k l;
+      accepted =
+          sym
+          (shape-read x Unicast (full (unicastHeard s 0x40 port i j k l)) (omega arith) refl refl
+          (rw (eq-eqb (sumOf x) 0 z, number-of-bytes 2 port p)));
       fields = refl;
     }
 
@@ -79,17 +71,30 @@ read-written (basic s k a b c d) x e = go (shapeOf k) refl e
     go : (h : Shape) → shapeOf k ≡ h → basicOf h s k (record { a = a; b = b; c = c; d = d }) ≡ full x → Reads x (basic s k a b c d)
     go Unknown h e = clash (cc)
     go Unicast h e = clash (cc)
-    go (Basic rule) h e = demand-elim (fits rule a b c d) 7 (λ t q. let o : layout (basic s k a b c d) ≡ x = full-one q in rw o at (basic-reads rule s k a b c d h t)) e
-read-written (unicast s port i j k l) x e = let o : layout (unicast s port i j k l) ≡ x = full-one e in rw o at (unicast-reads s port i j k l)
+    go (Basic rule) h e =
+        demand-elim (fits rule a b c d) 7
+        (λ t q.
+        let o : layout (basic s k a b c d) ≡ x = full-one q in
+        rw o at (basic-reads rule s k a b c d h t))
+        e
+read-written (unicast s port i j k l) x e =
+    demand-elim (ltb port 65536) 7
+    (λ t q.
+    let o : layout (unicast s port i j k l) ≡ x = full-one q in
+    rw o at (unicast-reads s port i j k l (ltb-true port 65536 t)))
+    e
 
--- in range: the frame is the layout
-in-range-written : (f : Fields) → InRange f → frameOf f ≡ full (layout f)
-in-range-written (basic s k a b c d) (basic-fits rule h t z) = rw (h, t)
-in-range-written (unicast s port i j k l) (unicast-fits p z) = refl
+-- what may be written is in range, and its frame is its layout
+may-written : (f : Fields) → Writable f → frameOf f ≡ full (layout f)
+may-written f w = go f (w .0)
+  where
+    go : (f : Fields) → InRange f → frameOf f ≡ full (layout f)
+    go (basic s k a b c d) (basic-fits rule h t z) = rw (h, t)
+    go (unicast s port i j k l) (unicast-fits p z) = rw (lt-ltb port 65536 p)
 
 -- what a reading tells of its datagram
-basic-frame : (d : List ℕ) (rule : Rule) (r : Request) → Bytes d → byte 0 d ≡ 0x04 → shapeOf (byte 2 d) ≡ Basic rule → readBasic rule d ≡ full r
-    → InRange (fieldsOf r) × (d ≡ layout (fieldsOf r))
+basic-frame : (d : List ℕ) (rule : Rule) (r : Heard) → Bytes d → byte 0 d ≡ 0x04 → shapeOf (byte 2 d) ≡ Basic rule
+    → readBasic rule d ≡ full r → InRange (fieldsOf r) × (d ≡ layout (fieldsOf r))
 unfolding readBasic
 basic-frame d rule r bs lead h =
     demand-elim (eqb (length d) 8) 5
@@ -103,7 +108,7 @@ basic-frame d rule r bs lead h =
     bytes-cons (w 1) (bytes-cons (w 2) (bytes-cons (w 3) (bytes-cons (w 4) (bytes-cons (w 5) (bytes-cons (w 6) bytes-none))))) in
     rw (← full-one e) (basic-fits rule h t b, o))))
 
-unicast-frame : (d : List ℕ) (r : Request) → Bytes d → byte 0 d ≡ 0x04 → shapeOf (byte 2 d) ≡ Unicast → readUnicast d ≡ full r
+unicast-frame : (d : List ℕ) (r : Heard) → Bytes d → byte 0 d ≡ 0x04 → shapeOf (byte 2 d) ≡ Unicast → readUnicast d ≡ full r
     → InRange (fieldsOf r) × (d ≡ layout (fieldsOf r))
 unfolding readUnicast
 unicast-frame d r bs lead h =
@@ -113,9 +118,11 @@ unicast-frame d r bs lead h =
     (λ z e.
     let w = bs .byte in
     let port : ℕ = pair (byte 4 d) (byte 5 d) in
-    let p : port < 65536 = pair-fits (byte 4 d) (byte 5 d) (w 4) (w 5) in
-    let hi : byte 4 d ≡ high port = sym (pair-high (byte 4 d) (byte 5 d) (w 4) (w 5)) in
-    let lo : byte 5 d ≡ low port = sym (pair-low (byte 4 d) (byte 5 d) (w 5)) in
+    let two : Bytes (byte 4 d ∷ byte 5 d ∷ []) = bytes-cons (w 4) (bytes-cons (w 5) bytes-none) in
+    let p : port < 65536 = number-below 2 (byte 4 d ∷ byte 5 d ∷ []) refl two in
+    let back : bigBytes 2 port ≡ byte 4 d ∷ byte 5 d ∷ [] = bytes-of-number 2 (byte 4 d ∷ byte 5 d ∷ []) refl two in
+    let hi : byte 4 d ≡ port / 256 % 256 = cc in
+    let lo : byte 5 d ≡ port % 256 = cc in
     let o : d ≡ layout (unicast (byte 1 d) port (byte 6 d) (byte 7 d) (byte 8 d) (byte 9 d)) =
     opened 10 0 d (eqb-true (length d) 11 l) (eqb-true (sumOf d) 0 z)
     ∙ ap sealed (same-head lead (unicast-only (byte 2 d) h) (eqb-true (byte 3 d) 6 six) hi lo) in
@@ -128,14 +135,15 @@ unicast-frame d r bs lead h =
     same-head p q r s t = cc
 
 -- an accepted datagram is a frame: the fields that it gives are in range, and it is their layout
-accepted-frame : (d : List ℕ) (r : Request) → Bytes d → readRequest d ≡ full r → InRange (fieldsOf r) × (d ≡ layout (fieldsOf r))
+accepted-frame : (d : List ℕ) (r : Heard) → Bytes d → readRequest d ≡ full r → InRange (fieldsOf r) × (d ≡ layout (fieldsOf r))
 unfolding readRequest
 accepted-frame d r bs =
     demand-elim (leb 8 (length d)) 1
     (λ l. demand-elim (eqb (byte 0 d) 0x04) 2
     (λ h. go (eqb-true (byte 0 d) 0x04 h) (shapeOf (byte 2 d)) refl))
   where
-    go : byte 0 d ≡ 0x04 → (x : Shape) → shapeOf (byte 2 d) ≡ x → readShape x d ≡ full r → InRange (fieldsOf r) × (d ≡ layout (fieldsOf r))
+    go : byte 0 d ≡ 0x04 → (x : Shape) → shapeOf (byte 2 d) ≡ x → readShape x d ≡ full r
+        → InRange (fieldsOf r) × (d ≡ layout (fieldsOf r))
     go lead Unknown h e = clash (cc)
     go lead (Basic rule) h e = basic-frame d rule r bs lead h e
     go lead Unicast h e = unicast-frame d r bs lead h e
@@ -148,8 +156,8 @@ head-bytes (unicast-fits {s} {port} {i} {j} {k} {l} p b) =
     (bytes-cons (bytes-head b)
     (bytes-cons (omega arith)
     (bytes-cons (omega arith)
-    (bytes-cons {b = high port} (omega arith)
-    (bytes-cons {b = low port} (omega arith) (bytes-tail b))))))
+    (bytes-cons {b = port / 256 % 256} (omega arith)
+    (bytes-cons {b = port % 256} (omega arith) (bytes-tail b))))))
 
 frame-bytes : (f : Fields) → InRange f → Bytes (layout f)
 frame-bytes f i = sealed-bytes (head-bytes i)
@@ -160,10 +168,32 @@ frame-sum f i = sealed-sum (head f)
 
 frame-accepted : (f : Fields) → InRange f → Reads (layout f) f
 frame-accepted (basic s k a b c d) (basic-fits rule h t z) = basic-reads rule s k a b c d h t
-frame-accepted (unicast s port i j k l) (unicast-fits p z) = unicast-reads s port i j k l
+frame-accepted (unicast s port i j k l) (unicast-fits p z) = unicast-reads s port i j k l p
 
--- DEMAND 2 FOR REQUESTS. Whatever is in range may be written
-pub requests : Demand2 InRange layout readRequest (λ r d. fieldsOf r) InRange frameOf
+-- DEMAND 2 FOR REQUESTS
+pub requests : Demand2 InRange layout readRequest (λ r d. fieldsOf r) Writable frameOf
 requests =
-    demand2 InRange layout readRequest (λ r d. fieldsOf r) InRange frameOf
-    accepted-frame frame-bytes frame-sum frame-accepted (λ f i. i) in-range-written read-written
+    demand2 InRange layout readRequest (λ r d. fieldsOf r) Writable frameOf
+    accepted-frame frame-bytes frame-sum frame-accepted (λ f w. w .0) may-written read-written
+
+-- as yet, what is read may be written
+pub in-range-writable : (f : Fields) → InRange f → Writable f
+in-range-writable f i = (i, go f i)
+  where
+    go : (f : Fields) → InRange f → mayWrite (commandIn f) ≡ true
+    go (basic s k a b c d) (basic-fits rule h t z) = known-may-write k (basic-known k rule h)
+    go (unicast s port i j k l) (unicast-fits p z) = known-may-write 0x40 unicast-known
+
+-- so a relay hands on what it accepts: the writer's frame for what was read is the datagram itself
+pub relay-frame : (d : List ℕ) (r : Heard) → Bytes d → readRequest d ≡ full r → writerOf (fieldsOf r) ≡ full d
+relay-frame d r bs e =
+    asked (fieldsOf r)
+    (requests .written-read d r bs e (in-range-writable (fieldsOf r) (accepted-frame d r bs e .0)))
+  where
+    asked : (f : Fields) → frameOf f ≡ full d → writerOf f ≡ full d
+    asked (basic s k a b c d) q = q
+    asked (unicast s port i j k l) q = demand-elim (ltb port 65536) 7 (λ t q. q) q
+
+pub relays : (d : List ℕ) (r : Heard) {out p : List ℕ} {w : Wrote} → Bytes d → readRequest d ≡ full r
+    → Written (writerOf (fieldsOf r)) out w p → Written (relayed (readRequest d) d) out w p
+relays d r bs e w = rw e (rw (relay-frame d r bs e) at w)

@@ -1,27 +1,18 @@
 -- Document 01, "Frames": the fields of a request, document 01's ranges for them, and the published layouts.
 --   Basic request, 8 bytes: 04, sequence, command, four argument bytes (A, B, C, D), sum.
 --   Request 40, 11 bytes: 04, sequence, 40, length 06, port high, port low, four IPv4 bytes, sum.
-use Prim.Native.Nat.{ℕ, _/_, _%_, _<_}
+use Prim.Native.Nat.{ℕ, _<_}
 use mathlib.Core.Path.{_≡_}
 use mathlib.Core.Bool.{true}
-use mathlib.Core.List.{List, [], _∷_}
+use mathlib.Core.List.{List, [], _∷_, _++_}
 use Rattle.sum.specs.Bytes.{Bytes}
 use Rattle.frame.specs.Frame.{sealed}
-use Rattle.order.specs.Order.{highFirst, numberIn}
+use Rattle.order.specs.Big.{bigBytes}
 use Rattle.command.specs.declared.Rule.{Rule}
 use Rattle.command.specs.declared.Shape.the-variants.{Basic}
-use Rattle.command.specs.Command.{shapeOf}
+use Rattle.command.specs.Command.{shapeOf, mayWrite}
 use Rattle.command.specs.Arguments.{fits}
-
--- the number of two bytes, high byte first, and the two bytes of a number
-abbrev pub pair : ℕ → ℕ → ℕ
-pair high low = numberIn highFirst 2 (high ∷ low ∷ [])
-
-abbrev pub high : ℕ → ℕ
-high n = n / 256
-
-abbrev pub low : ℕ → ℕ
-low n = n % 256
+use Rattle.command.specs.Length.{unicastCommand, unicastLength}
 
 -- a request's fields: sequence, command, A, B, C, D; or sequence, port and the four bytes of an address
 pub data Fields : Type 0 where
@@ -30,13 +21,23 @@ pub data Fields : Type 0 where
 
 -- the ranges: a basic request's command has a rule, and its arguments keep it; request 40 takes any port and address
 pub data InRange : Fields → Type 0 where
-  basic-fits : {s k a b c d : ℕ} (rule : Rule) → shapeOf k ≡ Basic rule → fits rule a b c d ≡ true → Bytes (s ∷ k ∷ a ∷ b ∷ c ∷ d ∷ []) → InRange (basic s k a b c d)
+  basic-fits : {s k a b c d : ℕ} (rule : Rule) → shapeOf k ≡ Basic rule → fits rule a b c d ≡ true → Bytes (s ∷ k ∷ a ∷ b ∷ c ∷ d ∷ [])
+      → InRange (basic s k a b c d)
   unicast-fits : {s port i j k l : ℕ} → port < 65536 → Bytes (s ∷ i ∷ j ∷ k ∷ l ∷ []) → InRange (unicast s port i j k l)
+
+-- the command of some fields
+abbrev pub commandIn : Fields → ℕ
+commandIn (basic s k a b c d) = k
+commandIn (unicast s port i j k l) = unicastCommand
+
+-- what may be written: what is in range and has a command that may be
+abbrev pub Writable : Fields → Type 0
+Writable f = InRange f × (mayWrite (commandIn f) ≡ true)
 
 -- the bytes in front of the sum
 abbrev pub head : Fields → List ℕ
 head (basic s k a b c d) = 0x04 ∷ s ∷ k ∷ a ∷ b ∷ c ∷ d ∷ []
-head (unicast s port i j k l) = 0x04 ∷ s ∷ 0x40 ∷ 0x06 ∷ high port ∷ low port ∷ i ∷ j ∷ k ∷ l ∷ []
+head (unicast s port i j k l) = 0x04 ∷ s ∷ unicastCommand ∷ unicastLength ∷ bigBytes 2 port ++ (i ∷ j ∷ k ∷ l ∷ [])
 
 -- a request's datagram
 abbrev pub layout : Fields → List ℕ

@@ -1,5 +1,10 @@
+-- what the contracts cite
 pub mod Layout
-pub mod Meaning
+pub mod Said
 pub mod Reading
 pub mod Writing
+-- what is claimed of it
+pub mod One
 pub mod Demand2
+-- what only serves proofs
+pub mod Reads

@@ -1,20 +1,23 @@
 -- The frame that a writer of requests is to write, or the refusal that it is to give: 3, then 7; 8 comes with the buffer (crate frame).
 use Prim.Native.Nat.{ℕ}
 use mathlib.Core.List.{List}
+use lib.Dec.{ltb}
 use Rattle.refusal.specs.Answer.{Answer, refused, full, demand}
 use Rattle.command.specs.declared.Shape.{Shape}
 use Rattle.command.specs.declared.Shape.the-variants.{Unknown, Basic, Unicast}
 use Rattle.command.specs.Command.{shapeOf}
 use Rattle.command.specs.Arguments.{fits}
-use Rattle.request.specs.Layout.{basic, unicast, layout}
-use Rattle.request.specs.declared.Arguments.{Arguments}
+use Rattle.meaning.specs.declared.Arguments.{Arguments}
+use Rattle.request.specs.Layout.{Fields, basic, unicast, layout}
 use Rattle.request.specs.declared.Ipv4.{Ipv4}
 
 -- "unknown command; also 40 given to the writer of basic requests"
 abbrev pub basicOf : Shape → ℕ → ℕ → Arguments → Answer (List ℕ)
 basicOf Unknown s k x = refused 3
 basicOf Unicast s k x = refused 3
-basicOf (Basic rule) s k x = demand (fits rule (x .a) (x .b) (x .c) (x .d)) 7 (full (layout (basic s k (x .a) (x .b) (x .c) (x .d))))
+basicOf (Basic rule) s k x =
+    demand (fits rule (x .a) (x .b) (x .c) (x .d)) 7
+    (full (layout (basic s k (x .a) (x .b) (x .c) (x .d))))
 
 abbrev pub basicFrame : ℕ → ℕ → Arguments → Answer (List ℕ)
 basicFrame s k x = basicOf (shapeOf k) s k x
@@ -22,3 +25,13 @@ basicFrame s k x = basicOf (shapeOf k) s k x
 -- "Request 40 takes any port and address."
 abbrev pub unicastFrame : ℕ → ℕ → Ipv4 → Answer (List ℕ)
 unicastFrame s port ip = full (layout (unicast s port (ip .0) (ip .1) (ip .2) (ip .3)))
+
+-- the writer for some fields
+abbrev pub writerOf : Fields → Answer (List ℕ)
+writerOf (basic s k a b c d) = basicFrame s k (record { a = a; b = b; c = c; d = d })
+writerOf (unicast s port i j k l) = unicastFrame s port (record { 0 = i; 1 = j; 2 = k; 3 = l })
+
+-- what may be handed to it: a port has two bytes by its type
+abbrev pub frameOf : Fields → Answer (List ℕ)
+frameOf (basic s k a b c d) = writerOf (basic s k a b c d)
+frameOf (unicast s port i j k l) = demand (ltb port 65536) 7 (writerOf (unicast s port i j k l))

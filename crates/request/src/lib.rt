@@ -1,73 +1,22 @@
-// Requests as single datagrams: read, and written into a lent buffer. Basic requests and the one dynamic request, 40.
+// Requests as single datagrams: read, written into a lent buffer, and relayed. Basic requests and the one dynamic request, 40. It
+// leans on crate command for shapes, lengths and ranges, and on crate meaning for what arguments say.
 // Document 01, "Frames" and "Requests and their argument ranges"; source 002, "Basic Request Frame" and "TPI Dynamic Subframe".
 ghost use mathlib.Core.Path.{_≡_};
 ghost use Prim.Native.Nat.{_≤_};
 ghost use lib.ListN.{length};
 ghost use Rattle.frame.specs.Written.{Written};
-ghost use Rattle.request.specs.Meaning.{meaningOf};
-ghost use Rattle.request.specs.Reading.{said, readRequest, readBasic, readUnicast};
-ghost use Rattle.request.specs.Writing.{basicFrame, unicastFrame};
+ghost use Rattle.frame.specs.Relay.{relayed};
+ghost use Rattle.request.specs.Said.{fieldsOf, saidRequest, said};
+ghost use Rattle.request.specs.Reading.{readRequest, readBasic, readUnicast};
+ghost use Rattle.request.specs.Writing.{basicFrame, unicastFrame, writerOf};
 use command::Rule;
 use command::Shape;
 use frame::Wrote;
-use target::Device;
-use target::Group;
-use target::Lights;
-use target::LineTarget;
-
-// The four argument bytes of a basic request, as they stand in it.
-pub struct Arguments {
-    pub a: u8,
-    pub b: u8,
-    pub c: u8,
-    pub d: u8,
-}
+use meaning::Arguments;
+use meaning::Meaning;
 
 // An IPv4 address, in the order in which it is written.
 pub struct Ipv4(pub u8, pub u8, pub u8, pub u8);
-
-// What the arguments of a basic request mean, as far as its command has them.
-pub enum Meaning {
-    Nothing,
-    Group(Group),
-    Emit(u8),
-    Timers {
-        device: Device,
-        instance: u8,
-    },
-    GroupScene {
-        group: Group,
-        scene: u8,
-    },
-    Channel {
-        universe: u8,
-        channel: u16,
-    },
-    Filter {
-        address: u8,
-        instance: u8,
-        mask: u16,
-    },
-    Query {
-        address: u8,
-        start: u8,
-        instance: u8,
-    },
-    Gear(u8),
-    Inhibit {
-        lights: Lights,
-        seconds: u16,
-    },
-    Scene {
-        lights: Lights,
-        scene: u8,
-    },
-    Level {
-        lights: Lights,
-        level: u8,
-    },
-    Lit(Lights),
-}
 
 // What a request holds behind its header.
 pub enum Contents {
@@ -93,61 +42,12 @@ pub enum Reading {
     Refused(u8),
 }
 
-// What four arguments mean under a rule.
-fn meaning_of(rule: Rule, a: u8, b: u8, c: u8, d: u8) -> Meaning
-    ensures { λ r. ⌜ r ≡ meaningOf rule a b c d ⌝ }
-{
-    match rule {
-        Rule::Group => Meaning::Group(Group(a)),
-        Rule::Emit => Meaning::Emit(a),
-        Rule::Bare => Meaning::Nothing,
-        Rule::Timers => Meaning::Timers {
-            device: Device(a),
-            instance: d,
-        },
-        Rule::GroupScene => Meaning::GroupScene {
-            group: Group(a),
-            scene: b,
-        },
-        Rule::Channel => Meaning::Channel {
-            universe: b,
-            channel: order::high_first(c, d),
-        },
-        Rule::Filter => Meaning::Filter {
-            address: a,
-            instance: b,
-            mask: order::high_first(c, d),
-        },
-        Rule::Query => Meaning::Query {
-            address: a,
-            start: b,
-            instance: d,
-        },
-        Rule::Gear => Meaning::Gear(a),
-        Rule::Inhibit => Meaning::Inhibit {
-            lights: LineTarget(a).lights(),
-            seconds: order::high_first(c, d),
-        },
-        Rule::Scene => Meaning::Scene {
-            lights: LineTarget(a).lights(),
-            scene: d,
-        },
-        Rule::Level => Meaning::Level {
-            lights: LineTarget(a).lights(),
-            level: d,
-        },
-        Rule::Lights => Meaning::Lit(LineTarget(a).lights()),
-        Rule::Address => Meaning::Lit(LineTarget(a).lights()),
-        Rule::Status => Meaning::Lit(LineTarget(a).status()),
-    }
-}
-
 // A basic request whose command has this rule.
 fn read_basic(rule: Rule, s: &[u8]) -> Reading
     requires { ⌜ 8 ≤ length (now s) ⌝ }
     ensures { λ r. ⌜ said r ≡ readBasic rule (now (s .entry)) ⌝ }
 {
-    if s.len() != 8 {
+    if s.len() != command::BASIC_BYTES {
         return Reading::Refused(5);
     }
     if sum::xor(s) != 0 {
@@ -160,7 +60,7 @@ fn read_basic(rule: Rule, s: &[u8]) -> Reading
     if !command::fits(rule, a, b, c, d) {
         return Reading::Refused(7);
     }
-    let meaning = meaning_of(rule, a, b, c, d);
+    let meaning = meaning::meaning_of(rule, a, b, c, d);
     Reading::Accepted(Request {
         sequence: s[1],
         command: s[2],
@@ -176,10 +76,10 @@ fn read_unicast(s: &[u8]) -> Reading
     requires { ⌜ 8 ≤ length (now s) ⌝ }
     ensures { λ r. ⌜ said r ≡ readUnicast (now (s .entry)) ⌝ }
 {
-    if s[3] != 6 {
+    if s[3] != command::UNICAST_LENGTH {
         return Reading::Refused(4);
     }
-    if s.len() != 11 {
+    if s.len() != command::UNICAST_BYTES {
         return Reading::Refused(5);
     }
     if sum::xor(s) != 0 {
@@ -200,10 +100,10 @@ fn read_unicast(s: &[u8]) -> Reading
 pub fn read(s: &[u8]) -> Reading
     ensures { λ r. ⌜ said r ≡ readRequest (now (s .entry)) ⌝ }
 {
-    if s.len() < 8 {
+    if s.len() < command::BASIC_BYTES {
         return Reading::Refused(1);
     }
-    if s[0] != 4 {
+    if s[0] != lead::REQUEST {
         return Reading::Refused(2);
     }
     let shape = command::shape_of(s[2]);
@@ -229,7 +129,7 @@ pub fn write_basic(sequence: u8, command: u8, arguments: Arguments, out: &mut [u
             if !command::fits(rule, a, b, c, d) {
                 return Wrote::Refused(7);
             }
-            let head = [4, sequence, command, a, b, c, d];
+            let head = [lead::REQUEST, sequence, command, a, b, c, d];
             frame::write(&head, b"", out)
         }
         Shape::Unknown => Wrote::Refused(3),
@@ -241,13 +141,13 @@ pub fn write_basic(sequence: u8, command: u8, arguments: Arguments, out: &mut [u
 pub fn write_unicast(sequence: u8, port: u16, address: Ipv4, out: &mut [u8]) -> Wrote
     ensures { λ r. ⌜ Written (unicastFrame sequence port address) (now (out .entry)) r (now (out .exit)) ⌝ }
 {
-    let high = (port / 256) as u8;
+    let high = (port / 256 % 256) as u8;
     let low = (port % 256) as u8;
     let head = [
-        4,
+        lead::REQUEST,
         sequence,
-        0x40,
-        6,
+        command::UNICAST_COMMAND,
+        command::UNICAST_LENGTH,
         high,
         low,
         address.0,
@@ -256,4 +156,30 @@ pub fn write_unicast(sequence: u8, port: u16, address: Ipv4, out: &mut [u8]) -> 
         address.3,
     ];
     frame::write(&head, b"", out)
+}
+
+// Writes a request that was read.
+fn write_again(r: Request, out: &mut [u8]) -> Wrote
+    ensures { λ w. ⌜ Written (writerOf (fieldsOf (saidRequest r))) (now (out .entry)) w (now (out .exit)) ⌝ }
+{
+    let contents = r.contents;
+    match contents {
+        Contents::Basic {
+            arguments,
+            meaning: _,
+        } => write_basic(r.sequence, r.command, arguments, out),
+        Contents::Unicast { port, address } => write_unicast(r.sequence, port, address, out),
+    }
+}
+
+// Hands a datagram on: reads it, and writes what was read into a lent buffer. An accepted one comes back byte for byte, or 8 where the
+// buffer is too short; else the answer is the reader's refusal.
+pub fn relay(s: &[u8], out: &mut [u8]) -> Wrote
+    ensures { λ r. ⌜ Written (relayed (readRequest (now (s .entry))) (now (s .entry))) (now (out .entry)) r (now (out .exit)) ⌝ }
+{
+    let reading = read(s);
+    match reading {
+        Reading::Refused(k) => Wrote::Refused(k),
+        Reading::Accepted(r) => write_again(r, out),
+    }
 }

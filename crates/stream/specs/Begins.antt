@@ -5,8 +5,7 @@ use mathlib.Core.List.{List, _++_}
 use lib.ListN.{length, getD, take, length-append, length-take}
 use lib.Seq.{getD-take, take-append-le, take-take}
 use native.Mathlib.Omega.{arith}
-use Rattle.stream.specs.declared.Step.{Step}
-use Rattle.stream.specs.declared.Step.the-variants.{More, Item as Settled}
+use Rattle.stream.specs.Stream.{Settling, More, Settled}
 use Rattle.stream.specs.Lawful.{Lawful}
 
 -- t has at least n bytes, and begins with the first n bytes of s
@@ -26,11 +25,12 @@ begins-front d s l = record { there = simp length-take (omega arith); same = sym
 
 -- what a rule says of s, and why: it waits, and s has at most `most` bytes; or d bytes settle an item that lies within them, here
 -- and in every run that begins with them
-pub data Settles (settle : List ℕ → Step) (most : ℕ) (s : List ℕ) : Step → Type 0 where
+pub data Settles (settle : List ℕ → Settling) (most : ℕ) (s : List ℕ) : Settling → Type 0 where
   waits : length s ≤ most → Settles settle most s More
-  item : (k m d : ℕ) → 1 ≤ m → m ≤ d → d ≤ length s → ((t : List ℕ) → Begins d s t → settle t ≡ Settled k m d) → Settles settle most s (Settled k m d)
+  item : (k m d : ℕ) → 1 ≤ m → m ≤ d → d ≤ length s → ((t : List ℕ) → Begins d s t → settle t ≡ Settled k m d)
+      → Settles settle most s (Settled k m d)
 
-module _ (settle : List ℕ → Step) (most : ℕ) (why : (s : List ℕ) → Settles settle most s (settle s)) where
+module _ (settle : List ℕ → Settling) (most : ℕ) (why : (s : List ℕ) → Settles settle most s (settle s)) where
   sized : (s : List ℕ) (k m d : ℕ) → settle s ≡ Settled k m d → (1 ≤ m) × (m ≤ d) × (d ≤ length s)
   sized s k m d e = go (rw e at (why s))
     where

@@ -5,9 +5,8 @@ use mathlib.Core.List.{List, [], _∷_, _++_, append-assoc, append-nil}
 use lib.ListN.{length, take, drop, length-append, length-take, length-drop, take-append-drop}
 use native.Mathlib.Omega.{arith}
 use Rattle.refusal.specs.Test.{clash}
-use Rattle.stream.specs.declared.Step.{Step}
-use Rattle.stream.specs.declared.Step.the-variants.{More, Item as Settled}
-use Rattle.stream.specs.Stream.{Item, reading, Fed, nothing, found, Closed, empty, last, numberOf, sizeOf, whole}
+use Rattle.stream.specs.Stream.{Settling, More, Settled}
+use Rattle.stream.specs.Stream.{Item, reading, Fed, nothingYet, found, Closed, empty, last, itemNumber, itemSize, whole}
 use Rattle.stream.specs.Stream.{items, feed, close, Run, fed, over, closed, ended}
 use Rattle.stream.specs.Lawful.{Lawful, size-some}
 use Rattle.stream.specs.Items.{items-none, items-next, items-front, behind}
@@ -15,31 +14,34 @@ use Rattle.stream.specs.Fewest.{Fewest, found-fewest, fedBy, feed-once}
 
 -- a part, cut once more
 split-part : (h p t : List ℕ) (j : ℕ) → h ++ (p ++ t) ≡ (h ++ take j p) ++ (drop j p ++ t)
-split-part h p t j = sym (append-assoc h (take j p) (drop j p ++ t) ∙ ap (λ (l : List ℕ). h ++ l) (sym (append-assoc (take j p) (drop j p) t) ∙ rw take-append-drop))
+split-part h p t j =
+    let e : take j p ++ (drop j p ++ t) ≡ p ++ t = sym (append-assoc (take j p) (drop j p) t) ∙ rw take-append-drop in
+    sym (append-assoc h (take j p) (drop j p ++ t) ∙ ap (λ (l : List ℕ). h ++ l) e)
 
 -- a closing call, case by case
-module _ (settle : List ℕ → Step) where
+module _ (settle : List ℕ → Settling) where
   pub close-none : (h : List ℕ) → length h ≡ 0 → close settle h ≡ empty
   unfolding close
   close-none [] l = refl
   close-none (b ∷ s) l = absurd (omega arith)
 
-  pub close-some : (h : List ℕ) → 1 ≤ length h → close settle h ≡ last (reading (numberOf (settle h)) (take (sizeOf (settle h)) h)) (drop (sizeOf (settle h)) h)
+  pub close-some : (h : List ℕ) → 1 ≤ length h
+      → close settle h ≡ last (reading (itemNumber (settle h)) (take (itemSize (settle h)) h)) (drop (itemSize (settle h)) h)
   unfolding close
   close-some [] l = absurd (omega arith)
   close-some (b ∷ s) l = refl
 
-module _ (settle : List ℕ → Step) (law : Lawful settle) where
+module _ (settle : List ℕ → Settling) (law : Lawful settle) where
   -- a call that says "nothing yet" holds what was held and the part, and these settle nothing
-  pub feed-nothing : (h p g : List ℕ) → feed settle h p ≡ nothing g → (g ≡ h ++ p) × (settle (h ++ p) ≡ More)
+  pub feed-nothing : (h p g : List ℕ) → feed settle h p ≡ nothingYet g → (g ≡ h ++ p) × (settle (h ++ p) ≡ More)
   feed-nothing h p g e = go (settle (h ++ p)) refl
     where
-      go : (x : Step) → settle (h ++ p) ≡ x → (g ≡ h ++ p) × (settle (h ++ p) ≡ More)
+      go : (x : Settling) → settle (h ++ p) ≡ x → (g ≡ h ++ p) × (settle (h ++ p) ≡ More)
       go More s =
-          let f : nothing g ≡ nothing (h ++ p) = sym e ∙ feed-once settle law h p ∙ simp s in
+          let f : nothingYet g ≡ nothingYet (h ++ p) = sym e ∙ feed-once settle law h p ∙ simp s in
           (cc, s)
       go (Settled k m d) s =
-          let f : nothing g ≡ fedBy (Settled k m d) h p = sym e ∙ feed-once settle law h p ∙ simp s in
+          let f : nothingYet g ≡ fedBy (Settled k m d) h p = sym e ∙ feed-once settle law h p ∙ simp s in
           clash (cc)
 
   -- a call that gives an item gives the next one of the stream
@@ -72,15 +74,15 @@ module _ (settle : List ℕ → Step) (law : Lawful settle) where
   unfolding close
   close-last [] g i e = clash (cc)
   close-last (b ∷ s) g i e =
-      let ei : reading (numberOf (settle (b ∷ s))) (take (sizeOf (settle (b ∷ s))) (b ∷ s)) ≡ i = cc in
-      let eg : drop (sizeOf (settle (b ∷ s))) (b ∷ s) ≡ g = cc in
+      let ei : reading (itemNumber (settle (b ∷ s))) (take (itemSize (settle (b ∷ s))) (b ∷ s)) ≡ i = cc in
+      let eg : drop (itemSize (settle (b ∷ s))) (b ∷ s) ≡ g = cc in
       items-next settle law b s ∙ cc (ap (items settle) eg)
 
   pub close-less : (h g : List ℕ) (i : Item) → close settle h ≡ last i g → length g < length h
   unfolding close
   close-less [] g i e = clash (cc)
   close-less (b ∷ s) g i e =
-      let eg : drop (sizeOf (settle (b ∷ s))) (b ∷ s) ≡ g = cc in
+      let eg : drop (itemSize (settle (b ∷ s))) (b ∷ s) ≡ g = cc in
       rw (← eg) (simp length-drop (omega (arith, size-some settle law (b ∷ s))))
 
   -- whatever the cut, the items given are those of the whole stream
@@ -107,7 +109,8 @@ module _ (settle : List ℕ → Step) (law : Lawful settle) where
   closing (suc n) h l = go (close settle h) refl (closing n)
     where
       go : (x : Closed) → close settle h ≡ x
-          → ((g : List ℕ) → length g < n → (is : List Item) × (c : ℕ) × Run settle g [] is c) → (is : List Item) × (c : ℕ) × Run settle h [] is c
+          → ((g : List ℕ) → length g < n → (is : List Item) × (c : ℕ) × Run settle g [] is c)
+          → (is : List Item) × (c : ℕ) × Run settle h [] is c
       go empty e rest = ([], 1, ended e)
       go (last i g) e rest =
           let r = rest g (omega (arith, close-less h g i e)) in
@@ -121,7 +124,7 @@ module _ (settle : List ℕ → Step) (law : Lawful settle) where
       go : (x : Fed) → feed settle h p ≡ x
           → ((h p : List ℕ) → length h + length p < n → (is : List Item) × (c : ℕ) × Run settle h (p ∷ ps) is c)
           → (is : List Item) × (c : ℕ) × Run settle h (p ∷ ps) is c
-      go (nothing g) e more =
+      go (nothingYet g) e more =
           let r = rest g in
           (r .0, suc (r .1), over e (r .2))
       go (found j i g) e more =

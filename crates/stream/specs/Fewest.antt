@@ -10,13 +10,12 @@ use borrow.Author.Tests.{ltb-true, ltb-false}
 use native.Mathlib.Nat.{zero-add, add-zero}
 use native.Mathlib.Omega.{arith}
 use Rattle.refusal.specs.Test.{clash}
-use Rattle.stream.specs.declared.Step.{Step}
-use Rattle.stream.specs.declared.Step.the-variants.{More, Item as Settled}
-use Rattle.stream.specs.Stream.{Item, reading, Fed, nothing, found, feedFrom, feed}
+use Rattle.stream.specs.Stream.{Settling, More, Settled}
+use Rattle.stream.specs.Stream.{Item, reading, Fed, nothingYet, found, feedFrom, feed}
 use Rattle.stream.specs.Lawful.{Lawful, prefix-waits, enough-settle, fewer-wait, not-more}
 
 -- j is the fewest bytes of the part p that, behind the bytes h, settle an item: these do, no fewer do. It is the item i, and g is then held
-pub record Fewest (settle : List ℕ → Step) (h p : List ℕ) (j : ℕ) (i : Item) (g : List ℕ) : Type 0 where
+pub record Fewest (settle : List ℕ → Settling) (h p : List ℕ) (j : ℕ) (i : Item) (g : List ℕ) : Type 0 where
   pub number : ℕ
   pub size : ℕ
   pub by : ℕ
@@ -27,11 +26,11 @@ pub record Fewest (settle : List ℕ → Step) (h p : List ℕ) (j : ℕ) (i : I
   pub holds : g ≡ drop size (h ++ take j p)
 
 -- what a feeding call answers, by what the rule says of the bytes held and the part behind them
-abbrev pub fedBy : Step → List ℕ → List ℕ → Fed
-fedBy More h p = nothing (h ++ p)
+abbrev pub fedBy : Settling → List ℕ → List ℕ → Fed
+fedBy More h p = nothingYet (h ++ p)
 fedBy (Settled k m d) h p = let s = h ++ take (d - length h) p in found (d - length h) (reading k (take m s)) (drop m s)
 
-module _ (settle : List ℕ → Step) where
+module _ (settle : List ℕ → Settling) where
   -- where the bytes held settle an item, none are taken
   at-once : (h p g : List ℕ) (j j′ : ℕ) (i : Item) (k m d : ℕ) → settle h ≡ Settled k m d
       → found j (reading k (take m h)) (drop m h) ≡ found j′ i g → (c : ℕ) × (j′ ≡ j + c) × Fewest settle h p c i g
@@ -73,18 +72,19 @@ module _ (settle : List ℕ → Step) where
       go zero l = rw append-nil s
       go (suc c) l = rw append-assoc at (w .2 .least c (omega arith))
 
-  found-from : (h p g : List ℕ) (j j′ : ℕ) (i : Item) → feedFrom settle j h p ≡ found j′ i g → (c : ℕ) × (j′ ≡ j + c) × Fewest settle h p c i g
+  found-from : (h p g : List ℕ) (j j′ : ℕ) (i : Item) → feedFrom settle j h p ≡ found j′ i g
+      → (c : ℕ) × (j′ ≡ j + c) × Fewest settle h p c i g
   unfolding feedFrom
   found-from h [] g j j′ i e = go (settle h) refl
     where
-      go : (x : Step) → settle h ≡ x → (c : ℕ) × (j′ ≡ j + c) × Fewest settle h [] c i g
+      go : (x : Settling) → settle h ≡ x → (c : ℕ) × (j′ ≡ j + c) × Fewest settle h [] c i g
       go More s =
-          let f : nothing h ≡ found j′ i g = simp s at e in
+          let f : nothingYet h ≡ found j′ i g = simp s at e in
           clash (cc)
       go (Settled k m d) s = at-once h [] g j j′ i k m d s (simp s at e)
   found-from h (b ∷ p) g j j′ i e = go (settle h) refl (found-from (h ++ (b ∷ [])) p g (suc j) j′ i)
     where
-      go : (x : Step) → settle h ≡ x
+      go : (x : Settling) → settle h ≡ x
           → (feedFrom settle (suc j) (h ++ (b ∷ [])) p ≡ found j′ i g → (c : ℕ) × (j′ ≡ suc j + c) × Fewest settle (h ++ (b ∷ [])) p c i g)
           → (c : ℕ) × (j′ ≡ j + c) × Fewest settle h (b ∷ p) c i g
       go More s rest = later h p g b j j′ i s (rest (simp s at e))
@@ -98,7 +98,8 @@ module _ (settle : List ℕ → Step) where
       rw q at (w .2)
 
   -- a call, case by case
-  pub feed-settled : (h p : List ℕ) (j k m d : ℕ) → settle h ≡ Settled k m d → feedFrom settle j h p ≡ found j (reading k (take m h)) (drop m h)
+  pub feed-settled : (h p : List ℕ) (j k m d : ℕ) → settle h ≡ Settled k m d
+      → feedFrom settle j h p ≡ found j (reading k (take m h)) (drop m h)
   unfolding feedFrom
   feed-settled h [] j k m d e = simp e
   feed-settled h (b ∷ p) j k m d e = simp e
@@ -136,7 +137,7 @@ module _ (settle : List ℕ → Step) where
   fewest-found {h} {p} {g} {j} {i} f = rw zero-add at (fewest-from h p g 0 j i f)
 
   -- "nothing yet" exactly where no bytes of it settle one, and then all are held
-  nothing-from : (h p : List ℕ) (j : ℕ) → ((c : ℕ) → settle (h ++ take c p) ≡ More) → feedFrom settle j h p ≡ nothing (h ++ p)
+  nothing-from : (h p : List ℕ) (j : ℕ) → ((c : ℕ) → settle (h ++ take c p) ≡ More) → feedFrom settle j h p ≡ nothingYet (h ++ p)
   unfolding feedFrom
   nothing-from h [] j w = let e : settle h ≡ More = rw append-nil at (w 0) in rw (e, append-nil)
   nothing-from h (b ∷ p) j w =
@@ -144,14 +145,14 @@ module _ (settle : List ℕ → Step) where
       ∙ nothing-from (h ++ (b ∷ [])) p (suc j) (λ c. rw append-assoc (w (suc c)))
       ∙ rw append-assoc
 
-  pub waits-nothing : (h p : List ℕ) → ((c : ℕ) → settle (h ++ take c p) ≡ More) → feed settle h p ≡ nothing (h ++ p)
+  pub waits-nothing : (h p : List ℕ) → ((c : ℕ) → settle (h ++ take c p) ≡ More) → feed settle h p ≡ nothingYet (h ++ p)
   waits-nothing h p w = nothing-from h p 0 w
 
 -- the bytes held, and then some of the part
 front-of : (h p : List ℕ) (c : ℕ) → h ++ take c p ≡ take (length h + c) (h ++ p)
 front-of h p c = sym (take-append-add h p c)
 
-module _ (settle : List ℕ → Step) (law : Lawful settle) where
+module _ (settle : List ℕ → Settling) (law : Lawful settle) where
   -- as many bytes of the part as the rule says are the fewest
   by-fewest : (h p : List ℕ) (k m d : ℕ) → settle (h ++ p) ≡ Settled k m d
       → Fewest settle h p (d - length h) (reading k (take m (h ++ take (d - length h) p))) (drop m (h ++ take (d - length h) p))
@@ -172,7 +173,7 @@ module _ (settle : List ℕ → Step) (law : Lawful settle) where
   pub feed-once : (h p : List ℕ) → feed settle h p ≡ fedBy (settle (h ++ p)) h p
   feed-once h p = go (settle (h ++ p)) refl
     where
-      go : (x : Step) → settle (h ++ p) ≡ x → feed settle h p ≡ fedBy x h p
+      go : (x : Settling) → settle (h ++ p) ≡ x → feed settle h p ≡ fedBy x h p
       go More e = waits-nothing settle h p (λ c. rw (front-of h p c) (prefix-waits settle law (length h + c) (h ++ p) e))
       go (Settled k m d) e = fewest-found settle (by-fewest h p k m d e)
 

@@ -5,9 +5,8 @@ use mathlib.Core.List.{List, [], _∷_, _++_}
 use lib.ListN.{length, take, drop, length-drop, length-append, take-append-drop}
 use lib.Seq.{take-append-le, drop-append-le}
 use native.Mathlib.Omega.{arith}
-use Rattle.stream.specs.declared.Step.{Step}
-use Rattle.stream.specs.declared.Step.the-variants.{Item as Settled}
-use Rattle.stream.specs.Stream.{Item, reading, numberOf, sizeOf, itemsUpTo, items, bytesOf, countsOf}
+use Rattle.stream.specs.Stream.{Settling, Settled}
+use Rattle.stream.specs.Stream.{Item, reading, itemNumber, itemSize, itemsUpTo, items, bytesOf, countsOf}
 use Rattle.stream.specs.Lawful.{Lawful, size-some}
 
 -- two lists with one head, whose tails are equal
@@ -20,7 +19,7 @@ unfolding countsOf bytesOf
 counts-bytes [] = refl
 counts-bytes (reading k l ∷ is) = ap (λ (n : ℕ). length l + n) (counts-bytes is) ∙ sym (length-append l (bytesOf is))
 
-module _ (settle : List ℕ → Step) (law : Lawful settle) where
+module _ (settle : List ℕ → Settling) (law : Lawful settle) where
   enough : (n m : ℕ) (s : List ℕ) → length s ≤ n → length s ≤ m → itemsUpTo settle n s ≡ itemsUpTo settle m s
   unfolding itemsUpTo
   enough zero zero [] hn hm = refl
@@ -32,7 +31,7 @@ module _ (settle : List ℕ → Step) (law : Lawful settle) where
   enough (suc n) zero (b ∷ s) hn hm = absurd (omega arith)
   enough (suc n) (suc m) (b ∷ s) hn hm =
       behind
-      (enough n m (drop (sizeOf (settle (b ∷ s))) (b ∷ s))
+      (enough n m (drop (itemSize (settle (b ∷ s))) (b ∷ s))
       (simp length-drop (omega (arith, size-some settle law (b ∷ s))))
       (simp length-drop (omega (arith, size-some settle law (b ∷ s)))))
 
@@ -43,10 +42,11 @@ module _ (settle : List ℕ → Step) (law : Lawful settle) where
 
   pub items-next : (b : ℕ) (s : List ℕ)
       → items settle (b ∷ s)
-      ≡ reading (numberOf (settle (b ∷ s))) (take (sizeOf (settle (b ∷ s))) (b ∷ s)) ∷ items settle (drop (sizeOf (settle (b ∷ s))) (b ∷ s))
+      ≡ reading (itemNumber (settle (b ∷ s))) (take (itemSize (settle (b ∷ s))) (b ∷ s))
+      ∷ items settle (drop (itemSize (settle (b ∷ s))) (b ∷ s))
   unfolding itemsUpTo
   items-next b s =
-      let r = drop (sizeOf (settle (b ∷ s))) (b ∷ s) in
+      let r = drop (itemSize (settle (b ∷ s))) (b ∷ s) in
       behind (enough (length s) (length r) r (simp length-drop (omega (arith, size-some settle law (b ∷ s)))) (omega arith))
 
   -- where the front is settled
@@ -55,7 +55,8 @@ module _ (settle : List ℕ → Step) (law : Lawful settle) where
   items-settled (b ∷ s) k m d e = simp e at (items-next b s)
 
   -- and where more bytes stand behind those that settle it
-  pub items-front : (h t : List ℕ) (k m d : ℕ) → settle h ≡ Settled k m d → items settle (h ++ t) ≡ reading k (take m h) ∷ items settle (drop m h ++ t)
+  pub items-front : (h t : List ℕ) (k m d : ℕ) → settle h ≡ Settled k m d
+      → items settle (h ++ t) ≡ reading k (take m h) ∷ items settle (drop m h ++ t)
   items-front h t k m d e =
       let w : m ≤ length h = omega (arith, law .within h k m d e, law .there h k m d e) in
       items-settled (h ++ t) k m d (law .stable h t k m d e) ∙ simp (take-append-le m h t w, drop-append-le m h t w)
@@ -70,8 +71,9 @@ module _ (settle : List ℕ → Step) (law : Lawful settle) where
       go zero (b ∷ s) h = absurd (omega arith)
       go (suc n) [] h = refl
       go (suc n) (b ∷ s) h =
-          let m = sizeOf (settle (b ∷ s)) in
-          let r : bytesOf (itemsUpTo settle n (drop m (b ∷ s))) ≡ drop m (b ∷ s) = go n (drop m (b ∷ s)) (simp length-drop (omega (arith, size-some settle law (b ∷ s)))) in
+          let m = itemSize (settle (b ∷ s)) in
+          let r : bytesOf (itemsUpTo settle n (drop m (b ∷ s))) ≡ drop m (b ∷ s) =
+          go n (drop m (b ∷ s)) (simp length-drop (omega (arith, size-some settle law (b ∷ s)))) in
           rw r (take-append-drop m (b ∷ s))
 
   -- so their byte counts add up to its length
@@ -86,4 +88,4 @@ module _ (settle : List ℕ → Step) (law : Lawful settle) where
       go : (n : ℕ) (s : List ℕ) → length (itemsUpTo settle n s) ≤ n
       go zero s = omega arith
       go (suc n) [] = omega arith
-      go (suc n) (b ∷ s) = omega (arith, go n (drop (sizeOf (settle (b ∷ s))) (b ∷ s)))
+      go (suc n) (b ∷ s) = omega (arith, go n (drop (itemSize (settle (b ∷ s))) (b ∷ s)))

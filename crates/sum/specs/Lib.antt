@@ -1,3 +1,7 @@
-pub mod Bytes
-pub mod Xor
+-- what the contracts cite
 pub mod Sum
+-- what is claimed of it
+pub mod Bytes
+pub mod Sums
+-- what only serves proofs
+pub mod Xor

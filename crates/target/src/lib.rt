@@ -2,7 +2,29 @@
 // address. Each is a type of its own, so that a group number handed over as a line target does not compile.
 // Document 01, "Requests and their argument ranges".
 ghost use mathlib.Core.Path.{_≡_};
-ghost use Rattle.target.specs.Target.{saidLine, saidDevice, saidNumber, lineOf, lightsOf, statusOf, deviceOf, numberOf};
+ghost use Rattle.target.specs.Target.{isLighting, saidTarget, saidLine, saidDevice, saidNumber, lineOf, lightsOf, statusOf, deviceOf, deviceNumber};
+
+// "0–63 gear": the last gear.
+pub const LAST_GEAR: u8 = 63;
+
+// "there are 16 groups and 64 devices": the last group and the last device by their own numbers.
+pub const LAST_GROUP: u8 = 15;
+
+const LAST_NUMBER: u8 = 63;
+
+// "group number + 64", and a control device's "own number + 64"; "so 79 and 127 end the ranges".
+pub const BASE: u8 = 64;
+
+pub const LAST_TARGET: u8 = 79;
+
+pub const LAST_DEVICE: u8 = 127;
+
+// "127 or 255 broadcast"; source 002: "81 can be used for broadcast status".
+const LOW_BROADCAST: u8 = 127;
+
+const BROADCAST: u8 = 255;
+
+pub const STATUS_BROADCAST: u8 = 81;
 
 // A target on the line: 0 to 63 gear, 64 to 79 group number + 64, 127 or 255 broadcast.
 pub struct LineTarget(pub u8);
@@ -13,12 +35,12 @@ pub struct Group(pub u8);
 // A control device address, 64 to 127: the device's own number + 64.
 pub struct Device(pub u8);
 
-// What a line target lights.
-pub enum Lights {
+// What a line target names.
+pub enum Target {
     Gear(u8),
     Group(Group),
     Broadcast,
-    // It is no lighting target.
+    // It is no target.
     Nothing,
 }
 
@@ -37,55 +59,62 @@ pub enum Numbered {
     Refused(u8),
 }
 
+// Whether a number is a lighting target.
+pub fn is_lighting(a: u8) -> bool
+    ensures { λ r. ⌜ r ≡ isLighting a ⌝ }
+{
+    (a <= LAST_TARGET) | ((a == LOW_BROADCAST) | (a == BROADCAST))
+}
+
 impl Group {
     // The group as a target on the line; 7 where there is no such group.
     pub fn line_target(self) -> OnLine
         ensures { λ r. ⌜ saidLine r ≡ lineOf self ⌝ }
     {
         let g = self.0;
-        if 15 < g {
+        if LAST_GROUP < g {
             return OnLine::Refused(7);
         }
-        OnLine::At(LineTarget(g + 64))
+        OnLine::At(LineTarget(g + BASE))
     }
 }
 
 impl LineTarget {
     // What a lighting command with this target lights.
-    pub fn lights(self) -> Lights
-        ensures { λ r. ⌜ r ≡ lightsOf self ⌝ }
+    pub fn lights(self) -> Target
+        ensures { λ r. ⌜ saidTarget r ≡ lightsOf self ⌝ }
     {
         let t = self.0;
-        if t <= 63 {
-            return Lights::Gear(t);
+        if t <= LAST_GEAR {
+            return Target::Gear(t);
         }
-        if t <= 79 {
-            return Lights::Group(Group(t - 64));
+        if t <= LAST_TARGET {
+            return Target::Group(Group(t - BASE));
         }
-        if t == 127 {
-            return Lights::Broadcast;
+        if t == LOW_BROADCAST {
+            return Target::Broadcast;
         }
-        if t == 255 {
-            return Lights::Broadcast;
+        if t == BROADCAST {
+            return Target::Broadcast;
         }
-        Lights::Nothing
+        Target::Nothing
     }
 
     // What a query of gear status (AB) with this target asks about: its broadcast is 81.
-    pub fn status(self) -> Lights
-        ensures { λ r. ⌜ r ≡ statusOf self ⌝ }
+    pub fn status(self) -> Target
+        ensures { λ r. ⌜ saidTarget r ≡ statusOf self ⌝ }
     {
         let t = self.0;
-        if t <= 63 {
-            return Lights::Gear(t);
+        if t <= LAST_GEAR {
+            return Target::Gear(t);
         }
-        if t <= 79 {
-            return Lights::Group(Group(t - 64));
+        if t <= LAST_TARGET {
+            return Target::Group(Group(t - BASE));
         }
-        if t == 81 {
-            return Lights::Broadcast;
+        if t == STATUS_BROADCAST {
+            return Target::Broadcast;
         }
-        Lights::Nothing
+        Target::Nothing
     }
 }
 
@@ -94,23 +123,23 @@ impl Device {
     pub fn of(number: u8) -> Addressed
         ensures { λ r. ⌜ saidDevice r ≡ deviceOf number ⌝ }
     {
-        if 63 < number {
+        if LAST_NUMBER < number {
             return Addressed::Refused(7);
         }
-        Addressed::At(Device(number + 64))
+        Addressed::At(Device(number + BASE))
     }
 
     // The device's own number; 7 where this is no control device address.
     pub fn number(self) -> Numbered
-        ensures { λ r. ⌜ saidNumber r ≡ numberOf self ⌝ }
+        ensures { λ r. ⌜ saidNumber r ≡ deviceNumber self ⌝ }
     {
         let a = self.0;
-        if a < 64 {
+        if a < BASE {
             return Numbered::Refused(7);
         }
-        if 127 < a {
+        if LAST_DEVICE < a {
             return Numbered::Refused(7);
         }
-        Numbered::Own(a - 64)
+        Numbered::Own(a - BASE)
     }
 }

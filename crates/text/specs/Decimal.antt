@@ -1,4 +1,4 @@
--- Laws of a number in decimal: its digits say it, none is to spare, and how many they are.
+-- What is claimed of a number in decimal: its digits say it, none is to spare, and how many they are.
 use Prim.Native.Nat.{ℕ, zero, suc, _+_, _-_, _*_, _/_, _%_, _^_, _≤_, _<_}
 use mathlib.Core.Path.{_≡_, refl, sym, ap, _∙_}
 use mathlib.Core.Bool.{Bool, true, false}
@@ -8,20 +8,25 @@ use lib.Dec.{ltb}
 use borrow.Author.Tests.{lt-ltb, ltb-true, ltb-false}
 use native.Mathlib.Nat.{pow-suc, pow-le-pow-right, pow-zero, one-le-pow, div-lt-iff-lt-mul, le-div-iff-mul-le, mod-eq-of-lt, mod-lt}
 use native.Mathlib.Omega.{arith}
-use Rattle.text.specs.Text.{digit, decimalIn, decimalOf, valueFrom}
+use Rattle.text.specs.Text.{digit, decimalIn}
+
+-- what decimal digits say, where those in front of them say x
+unfoldable pub valueFrom : ℕ → List ℕ → ℕ
+valueFrom x [] = x
+valueFrom x (d ∷ s) = valueFrom (x * 10 + (d - 48)) s
 
 pub decimal-digit : (d : ℕ) → d < 10 → digit d ≡ 48 + d
 decimal-digit d h = rw (lt-ltb d 10 h)
 
 -- a number is a digit, or it has ten in it
-decimal-cases : {P : Type 0} (n : ℕ) → (n < 10 → ltb n 10 ≡ true → P) → (10 ≤ n → ltb n 10 ≡ false → P) → P
+pub decimal-cases : {P : Type 0} (n : ℕ) → (n < 10 → ltb n 10 ≡ true → P) → (10 ≤ n → ltb n 10 ≡ false → P) → P
 decimal-cases {P} n f g = go (ltb n 10) refl
   where
     go : (t : Bool) → ltb n 10 ≡ t → P
     go true e = f (ltb-true n 10 e) e
     go false e = g (ltb-false n 10 e) e
 
-snoc-length : (s : List ℕ) (x : ℕ) → length (s ++ (x ∷ [])) ≡ suc (length s)
+pub snoc-length : (s : List ℕ) (x : ℕ) → length (s ++ (x ∷ [])) ≡ suc (length s)
 snoc-length s x = length-append s (x ∷ []) ∙ omega arith
 
 tenth : (k n : ℕ) → n < 10 ^ suc k → n / 10 < 10 ^ k
@@ -41,13 +46,17 @@ decimal-value (suc k) n h =
     (λ l e. rw e (omega arith))
     (λ l e. rw (e, value-snoc 0 (decimalIn k (n / 10)) (digit (n % 10)), decimal-value k (n / 10) (tenth k n h), decimal-digit (n % 10) (mod-lt n (omega arith))) (omega arith))
 
-decimal-some : (k n : ℕ) → n < 10 ^ k → 0 < n → 0 < length (decimalIn k n)
+-- a number has a digit at least, where one is granted
+pub decimal-some : (k n : ℕ) → 1 ≤ length (decimalIn (suc k) n)
 unfolding decimalIn
-decimal-some zero n h p = absurd (omega (arith, pow-zero 10))
-decimal-some (suc k) n h p =
+decimal-some k n =
     decimal-cases n
     (λ l e. rw e (omega arith))
     (λ l e. rw (e, snoc-length (decimalIn k (n / 10)) (digit (n % 10))) (omega arith))
+
+granted : (k n : ℕ) → n < 10 ^ k → 0 < n → 1 ≤ length (decimalIn k n)
+granted zero n h p = absurd (omega (arith, pow-zero 10))
+granted (suc k) n h p = decimal-some k n
 
 -- no zero stands in front, but for the number 0
 pub decimal-front : (k n : ℕ) → n < 10 ^ k → getD (decimalIn k n) 0 0 ≡ 48 → n ≡ 0
@@ -58,7 +67,7 @@ decimal-front (suc k) n h z =
     (λ l e. let d : 48 + n ≡ 48 = rw e at z in omega arith)
     (λ l e.
     let t : n / 10 < 10 ^ k = tenth k n h in
-    let some : 0 < length (decimalIn k (n / 10)) = decimal-some k (n / 10) t (omega arith) in
+    let some : 1 ≤ length (decimalIn k (n / 10)) = granted k (n / 10) t (omega arith) in
     let d : getD (decimalIn k (n / 10)) 0 0 ≡ 48 = sym (List·getD-append (decimalIn k (n / 10)) (digit (n % 10) ∷ []) 0 0 some) ∙ (rw e at z) in
     omega (arith, decimal-front k (n / 10) t d))
 
@@ -84,35 +93,3 @@ decimal-most (suc k) n =
     decimal-cases n
     (λ l e. rw e (omega arith))
     (λ l e. rw (e, snoc-length (decimalIn k (n / 10)) (digit (n % 10))) (omega (arith, decimal-most k (n / 10))))
-
--- the count of its digits, as a search from 1 on finds it
-pub places-found : (k n : ℕ) → 1 ≤ k → k ≤ 20 → (1 < k → 10 ^ (k - 1) ≤ n) → n < 10 ^ k → k ≡ length (decimalOf n)
-places-found zero n one most low high = absurd (omega arith)
-places-found (suc j) n one most low high =
-    let e : suc j - 1 ≡ j = omega arith in
-    sym (decimal-places 20 j n (omega arith) (λ z. rw e at (low (omega arith))) high)
-
--- the powers up to 10 ^ 19 fit into 64 bits
-pub power-fits : (k : ℕ) → k < 19 → 10 ^ k * 10 ≤ 10 ^ 19
-power-fits k h =
-    let p : 10 ^ suc k ≤ 10 ^ 19 = pow-le-pow-right {n = 10} (omega arith) {i = suc k} {j = 19} (omega arith) in
-    rw pow-suc at p
-
--- the last k decimal digits of a number
-unfoldable pub lastDigits : ℕ → ℕ → List ℕ
-lastDigits zero n = []
-lastDigits (suc k) n = lastDigits k (n / 10) ++ (digit (n % 10) ∷ [])
-
-pub last-length : (k n : ℕ) → length (lastDigits k n) ≡ k
-unfolding lastDigits
-last-length zero n = refl
-last-length (suc k) n = length-append (lastDigits k (n / 10)) (digit (n % 10) ∷ []) ∙ rw (last-length k (n / 10)) (omega arith)
-
--- a number in decimal is its last digits, as many as there are
-pub decimal-last : (k n : ℕ) → decimalIn k n ≡ lastDigits (length (decimalIn k n)) n
-unfolding decimalIn lastDigits
-decimal-last zero n = refl
-decimal-last (suc k) n =
-    decimal-cases n
-    (λ h e. rw (e, mod-eq-of-lt h, e))
-    (λ h e. rw (e, snoc-length (decimalIn k (n / 10)) (digit (n % 10))) (ap (λ (s : List ℕ). s ++ (digit (n % 10) ∷ [])) (decimal-last k (n / 10))))

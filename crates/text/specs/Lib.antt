@@ -1,3 +1,7 @@
+-- what the contracts cite
 pub mod Text
+-- what is claimed of it
 pub mod Decimal
+-- what only serves proofs
+pub mod Digits
 pub mod Spell

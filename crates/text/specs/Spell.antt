@@ -8,7 +8,7 @@ use native.Mathlib.Nat.{mod-lt}
 use native.Mathlib.Omega.{arith}
 use Rattle.lent.specs.Puts.{over, over-snoc}
 use Rattle.text.specs.Text.{digit}
-use Rattle.text.specs.Decimal.{lastDigits, last-length}
+use Rattle.text.specs.Digits.{lastDigits, last-length}
 
 -- the last digit of a number stored, and then those of its tenth in front of it
 pub spell : (i n : ℕ) (out : List ℕ) (at : ℕ) → 0 < i → at + i ≤ length out

@@ -1,8 +1,6 @@
 -- Bytes and numbers as text, in ASCII.
-use Prim.Native.Nat.{ℕ, zero, suc, _+_, _-_, _*_, _/_, _%_}
-use mathlib.Core.Path.{_≡_, refl}
+use Prim.Native.Nat.{ℕ, zero, suc, _+_, _/_, _%_}
 use mathlib.Core.List.{List, [], _∷_, _++_}
-use lib.ListN.{length}
 use lib.Dec.{ltb}
 use Rattle.refusal.specs.Test.{pick}
 
@@ -14,9 +12,6 @@ digit d = pick (ltb d 10) (48 + d) (55 + d)
 abbrev pub hexOf : ℕ → List ℕ
 hexOf b = digit (b / 16) ∷ digit (b % 16) ∷ []
 
-pub hex-length : (b : ℕ) → length (hexOf b) ≡ 2
-hex-length b = refl
-
 -- a number in decimal, where k digits are enough for it: the digits of its tenth, and its last digit behind them
 unfoldable pub decimalIn : ℕ → ℕ → List ℕ
 decimalIn zero n = []
@@ -25,8 +20,3 @@ decimalIn (suc k) n = pick (ltb n 10) (digit n ∷ []) (decimalIn k (n / 10) ++ 
 -- a number of 64 bits in decimal: 20 digits are enough
 abbrev pub decimalOf : ℕ → List ℕ
 decimalOf n = decimalIn 20 n
-
--- what decimal digits say, where those in front of them say x
-unfoldable pub valueFrom : ℕ → List ℕ → ℕ
-valueFrom x [] = x
-valueFrom x (d ∷ s) = valueFrom (x * 10 + (d - 48)) s

@@ -1,1 +1,2 @@
+-- what the contracts cite
 pub mod Outside

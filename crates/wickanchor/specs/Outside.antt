@@ -5,49 +5,85 @@ use mathlib.Core.List.{List}
 use Rattle.refusal.specs.Answer.{Answer, refused, full}
 use Rattle.frame.specs.Written.{said, wrote, after, Written}
 use Rattle.frame.specs.declared.Wrote.{Wrote}
-use Rattle.request.specs.declared.Request.{Request}
-use Rattle.request.specs.declared.Contents.{Contents}
-use Rattle.request.specs.declared.Contents.the-variants.{Basic, Unicast}
+use Rattle.request.specs.Said.{Heard, heard, Inside, arguments, address}
 use Rattle.reply.specs.declared.Reply.{Reply}
-use Rattle.event.specs.declared.Event.{Event}
-use Rattle.event.specs.declared.Instance.{Instance}
-use Rattle.event.specs.declared.Instance.the-variants.{Number, Absent}
-use Rattle.event.specs.Types.{numberOf}
+use Rattle.event.specs.Types.{kindNumber, Carried, carried, none}
+use Rattle.event.specs.Reading.{Told}
 use Rattle.wickanchor.specs.declared.WickRequest.{WickRequest}
 use Rattle.wickanchor.specs.declared.WickReply.{WickReply}
 use Rattle.wickanchor.specs.declared.WickEvent.{WickEvent}
 use Rattle.wickanchor.specs.declared.WickWrote.{WickWrote}
 
-abbrev pub contentsOut : ℕ → ℕ → Contents → WickRequest
-contentsOut s k (Basic x m) =
-    record { refusal = 0; sequence = s; command = k; a = x .a; b = x .b; c = x .c; d = x .d; address0 = 0; address1 = 0; address2 = 0; address3 = 0; port = 0 }
-contentsOut s k (Unicast p i) =
-    record { refusal = 0; sequence = s; command = k; a = 0; b = 0; c = 0; d = 0; address0 = i .0; address1 = i .1; address2 = i .2; address3 = i .3; port = p }
+abbrev pub insideOut : ℕ → ℕ → Inside → WickRequest
+insideOut s k (arguments a b c d m) =
+    record {
+      refusal = 0;
+      sequence = s;
+      command = k;
+      a = a;
+      b = b;
+      c = c;
+      d = d;
+      address0 = 0;
+      address1 = 0;
+      address2 = 0;
+      address3 = 0;
+      port = 0;
+    }
+insideOut s k (address p i j g h) =
+    record {
+      refusal = 0;
+      sequence = s;
+      command = k;
+      a = 0;
+      b = 0;
+      c = 0;
+      d = 0;
+      address0 = i;
+      address1 = j;
+      address2 = g;
+      address3 = h;
+      port = p;
+    }
 
-abbrev pub requestOut : Answer Request → WickRequest
-requestOut (refused k) = record { refusal = k; sequence = 0; command = 0; a = 0; b = 0; c = 0; d = 0; address0 = 0; address1 = 0; address2 = 0; address3 = 0; port = 0 }
-requestOut (full r) = contentsOut (r .sequence) (r .command) (r .contents)
+abbrev pub requestOut : Answer Heard → WickRequest
+requestOut (refused k) =
+    record {
+      refusal = k;
+      sequence = 0;
+      command = 0;
+      a = 0;
+      b = 0;
+      c = 0;
+      d = 0;
+      address0 = 0;
+      address1 = 0;
+      address2 = 0;
+      address3 = 0;
+      port = 0;
+    }
+requestOut (full (heard s k x)) = insideOut s k x
 
 abbrev pub replyOut : Answer Reply → WickReply
 replyOut (refused k) = record { refusal = k; kind = 0; sequence = 0; n = 0 }
 replyOut (full r) = record { refusal = 0; kind = r .kind; sequence = r .sequence; n = r .n }
 
 -- an instance, and whether there is one
-abbrev pub instanceNo : Instance → ℕ
-instanceNo (Number i) = i
-instanceNo Absent = 0
+abbrev pub instanceNo : Carried → ℕ
+instanceNo (carried i) = i
+instanceNo none = 0
 
-abbrev pub instanceIs : Instance → ℕ
-instanceIs (Number i) = 1
-instanceIs Absent = 0
+abbrev pub instanceIs : Carried → ℕ
+instanceIs (carried i) = 1
+instanceIs none = 0
 
-abbrev pub eventOut : Answer Event → WickEvent
+abbrev pub eventOut : Answer Told → WickEvent
 eventOut (refused k) =
     record { refusal = k; kind = 0; instance = 0; «has_instance» = 0; mac0 = 0; mac1 = 0; mac2 = 0; mac3 = 0; mac4 = 0; mac5 = 0; target = 0; n = 0 }
 eventOut (full e) =
     record {
       refusal = 0;
-      kind = numberOf (e .kind);
+      kind = kindNumber (e .kind);
       instance = instanceNo (e .instance);
       «has_instance» = instanceIs (e .instance);
       mac0 = e .mac .0;

@@ -4,16 +4,18 @@
 ghost use mathlib.Core.Path.{_≡_};
 ghost use Rattle.refusal.specs.Answer.{full};
 ghost use Rattle.frame.specs.Written.{said};
+ghost use Rattle.request.specs.Said.{saidRequest};
 ghost use Rattle.request.specs.Reading.{readRequest};
 ghost use Rattle.request.specs.Writing.{basicFrame};
 ghost use Rattle.reply.specs.Reading.{readReply};
 ghost use Rattle.reply.specs.Writing.{replyFrame};
-ghost use Rattle.event.specs.Reading.{readEvent};
+ghost use Rattle.event.specs.Types.{saidInstance};
+ghost use Rattle.event.specs.Reading.{readEvent, saidEvent};
 ghost use Rattle.wickanchor.specs.Outside.{requestOut, replyOut, instanceNo, instanceIs, eventOut, wroteOut, WrittenOut};
 use event::Event;
 use event::Instance;
 use frame::Wrote;
-use request::Arguments;
+use meaning::Arguments;
 use request::Contents;
 use request::Request;
 
@@ -65,7 +67,7 @@ pub struct WickWrote {
 }
 
 fn request_out(r: Request) -> WickRequest
-    ensures { λ w. ⌜ w ≡ requestOut (full r) ⌝ }
+    ensures { λ w. ⌜ w ≡ requestOut (full (saidRequest r)) ⌝ }
 {
     let contents = r.contents;
     match contents {
@@ -152,7 +154,7 @@ pub extern "C" fn wick_reply(s: &[u8]) -> WickReply
 
 // An instance as a number, 0 where there is none; and whether there is one.
 fn instance_no(i: Instance) -> u8
-    ensures { λ r. ⌜ r ≡ instanceNo i ⌝ }
+    ensures { λ r. ⌜ r ≡ instanceNo (saidInstance i) ⌝ }
 {
     match i {
         Instance::Number(n) => n,
@@ -161,7 +163,7 @@ fn instance_no(i: Instance) -> u8
 }
 
 fn instance_is(i: Instance) -> u8
-    ensures { λ r. ⌜ r ≡ instanceIs i ⌝ }
+    ensures { λ r. ⌜ r ≡ instanceIs (saidInstance i) ⌝ }
 {
     match i {
         Instance::Number(_) => 1,
@@ -170,7 +172,7 @@ fn instance_is(i: Instance) -> u8
 }
 
 fn event_out(e: Event) -> WickEvent
-    ensures { λ w. ⌜ w ≡ eventOut (full e) ⌝ }
+    ensures { λ w. ⌜ w ≡ eventOut (full (saidEvent e)) ⌝ }
 {
     let m = e.mac;
     let t = e.kind;

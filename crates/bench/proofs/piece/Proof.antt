@@ -6,10 +6,10 @@ use Rattle.bench.proofs.piece.Statement.{statement}
 use Rattle.bench.proofs.piece.Tie as tie
 
 abbrev Inv-loop : tie.InvT-loop
-Inv-loop s line₀ bytes₀ lent₀ out₀ r₀ i₀ line bytes lent out r i = (length line ≡ length line₀) × (length bytes ≡ length bytes₀) × (length lent ≡ length lent₀) × (length out ≡ length out₀)
+Inv-loop s line₀ bytes₀ buffer₀ out₀ r₀ i₀ line bytes buffer out r i = (length line ≡ length line₀) × (length bytes ≡ length bytes₀) × (length buffer ≡ length buffer₀) × (length out ≡ length out₀)
 
 abbrev μ-loop : tie.MeasureT-loop
-μ-loop s line₀ bytes₀ lent₀ out₀ r₀ i₀ line bytes lent out r i = length s - i
+μ-loop s line₀ bytes₀ buffer₀ out₀ r₀ i₀ line bytes buffer out r i = length s - i
 
 loop-holds : tie.Need-loop-holds Inv-loop μ-loop
 loop-holds c = search needs

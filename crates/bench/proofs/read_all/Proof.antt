@@ -6,10 +6,10 @@ use Rattle.bench.proofs.read_all.Statement.{statement}
 use Rattle.bench.proofs.read_all.Tie as tie
 
 abbrev Inv-loop : tie.InvT-loop
-Inv-loop input₀ line₀ bytes₀ lent₀ out₀ r₀ left₀ input line bytes lent out r left = (left < 2 ^ 64) × (length input ≡ length input₀) × (length line ≡ length line₀) × (length bytes ≡ length bytes₀) × (length lent ≡ length lent₀) × (length out ≡ length out₀)
+Inv-loop input₀ line₀ bytes₀ buffer₀ out₀ r₀ left₀ input line bytes buffer out r left = (left < 2 ^ 64) × (length input ≡ length input₀) × (length line ≡ length line₀) × (length bytes ≡ length bytes₀) × (length buffer ≡ length buffer₀) × (length out ≡ length out₀)
 
 abbrev μ-loop : tie.MeasureT-loop
-μ-loop input₀ line₀ bytes₀ lent₀ out₀ r₀ left₀ input line bytes lent out r left = left
+μ-loop input₀ line₀ bytes₀ buffer₀ out₀ r₀ left₀ input line bytes buffer out r left = left
 
 fresh-requires : tie.Need-fresh-requires Inv-loop μ-loop
 fresh-requires c κs = search needs

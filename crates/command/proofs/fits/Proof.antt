@@ -48,6 +48,18 @@ enum-told-14 c = search needs
 enum-told-15 : tie.Need-enum-told-15
 enum-told-15 c = search needs
 
+is-lighting-requires : tie.Need-is-lighting-requires
+is-lighting-requires c κs = search needs
+
+is-lighting-requires-2 : tie.Need-is-lighting-requires-2
+is-lighting-requires-2 c κs = search needs
+
+is-lighting-requires-3 : tie.Need-is-lighting-requires-3
+is-lighting-requires-3 c κs = search needs
+
+is-lighting-requires-4 : tie.Need-is-lighting-requires-4
+is-lighting-requires-4 c κs = search needs
+
 returns : tie.Need-returns
 unfolding fits
 returns c = rw (c .enum-told .given .1)
@@ -86,19 +98,19 @@ returns-9 c = rw (c .enum-told9 .given .1)
 
 returns-10 : tie.Need-returns-10
 unfolding fits
-returns-10 c = rw (c .enum-told10 .given .1)
+returns-10 c = rw (c .is-lighting .ensures, c .before .enum-told10 .given .1)
 
 returns-11 : tie.Need-returns-11
 unfolding fits
-returns-11 c = rw (c .enum-told11 .given .1)
+returns-11 c = rw (c .is-lighting2 .ensures, c .before .enum-told11 .given .1)
 
 returns-12 : tie.Need-returns-12
 unfolding fits
-returns-12 c = rw (c .enum-told12 .given .1)
+returns-12 c = rw (c .is-lighting3 .ensures, c .before .enum-told12 .given .1)
 
 returns-13 : tie.Need-returns-13
 unfolding fits
-returns-13 c = rw (c .enum-told13 .given .1)
+returns-13 c = rw (c .is-lighting4 .ensures, c .before .enum-told13 .given .1)
 
 returns-14 : tie.Need-returns-14
 unfolding fits
@@ -122,9 +134,13 @@ fits-spec =
     enum-told-8
     enum-told-9
     enum-told-10
+    is-lighting-requires
     enum-told-11
+    is-lighting-requires-2
     enum-told-12
+    is-lighting-requires-3
     enum-told-13
+    is-lighting-requires-4
     enum-told-14
     enum-told-15
     returns

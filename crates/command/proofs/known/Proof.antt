@@ -1,3 +1,4 @@
+use Rattle.command.specs.Known.{shape-told}
 use borrow.Author.Needs.{needs}
 use Rattle.command.proofs.known.Statement.{statement}
 use Rattle.command.proofs.known.Tie as tie
@@ -15,13 +16,13 @@ enum-told-3 : tie.Need-enum-told-3
 enum-told-3 c = search needs
 
 returns : tie.Need-returns
-returns c = rw (← c .before .before .shape-of .ensures, c .enum-told .given .1)
+returns c = rw (← shape-told (c .before .before .shape-of .result) (c .before .before .before .args .command) (c .before .before .shape-of .ensures), c .enum-told .given .1)
 
 returns-2 : tie.Need-returns-2
-returns-2 c = rw (← c .before .before .shape-of .ensures, c .enum-told2 .given .1)
+returns-2 c = rw (← shape-told (c .before .before .shape-of .result) (c .before .before .before .args .command) (c .before .before .shape-of .ensures), c .enum-told2 .given .1)
 
 returns-3 : tie.Need-returns-3
-returns-3 c = rw (← c .before .before .shape-of .ensures, c .enum-told3 .given .1)
+returns-3 c = rw (← shape-told (c .before .before .shape-of .result) (c .before .before .before .args .command) (c .before .before .shape-of .ensures), c .enum-told3 .given .1)
 
 pub known-spec : {M : Type 1} → statement M
 known-spec =

@@ -1,6 +1,9 @@
+use Prim.Native.Nat.{_^_, _≤_}
+use native.Mathlib.Omega.{arith}
 use Rattle.refusal.specs.Test.{tests}
 use Rattle.frame.specs.Written.{refuses, passes}
-use Rattle.event.specs.Writing.{eventFrame, frames}
+use Rattle.event.specs.Writing.{eventFrame}
+use Rattle.event.specs.Fits.{frames, lacking}
 use borrow.Author.Needs.{needs}
 use Rattle.event.proofs.write.Statement.{statement}
 use Rattle.event.proofs.write.Tie as tie
@@ -11,11 +14,19 @@ returns c = refuses (c .before .before .before .args .out .now) (search (tests, 
 
 returns-2 : tie.Need-returns-2
 unfolding eventFrame
-returns-2 c = refuses (c .before .before .before .before .args .out .now) (search (tests, needs))
+returns-2 c =
+    let a = c .before .before .before .before .args in
+    let h : 256 ^ 3 ≤ a .target = omega arith in
+    refuses (a .out .now) (search (tests, needs))
+
+has-instance-requires : tie.Need-has-instance-requires
+has-instance-requires c κs = search needs
 
 returns-3 : tie.Need-returns-3
-unfolding eventFrame
-returns-3 c = refuses (c .before .before .before .before .before .args .out .now) (search (c .if3 .taken, tests, needs))
+returns-3 c =
+    let a = c .before .before .before .before .before .before .args in
+    let i = rw (c .before .has-instance .ensures) at (c .if3 .taken) in
+    refuses (a .out .now) (lacking 3 (a .mac) (a .target) (a .kind) (a .«data» .now) (search needs) i)
 
 cast-high : tie.Need-cast-high
 cast-high c = search needs
@@ -26,8 +37,14 @@ cast-middle c = search needs
 cast-low : tie.Need-cast-low
 cast-low c = search needs
 
-cast-t21 : tie.Need-cast-t21
-cast-t21 c = search needs
+array-read-t20 : tie.Need-array-read-t20
+array-read-t20 c = search needs
+
+array-read-t24 : tie.Need-array-read-t24
+array-read-t24 c = search needs
+
+cast-t25 : tie.Need-cast-t25
+cast-t25 c = search needs
 
 slice-aggregate-write : tie.Need-slice-aggregate-write
 slice-aggregate-write c = search needs
@@ -40,8 +57,9 @@ same-length c = search needs
 
 returns-4 : tie.Need-returns-4
 returns-4 c =
-    let a = c .before .before .before .before .before .before .before .before .before .before .args in
-    passes (frames 3 (a .mac) (a .target) (a .kind) (a .«data» .now) (search needs) (search needs) (c .before .before .before .before .before .if3 .left)) (c .before .before .write .ensures)
+    let a = c .before .before .before .before .before .before .before .before .before .before .before .args in
+    let i = rw (c .before .before .before .before .before .before .has-instance .ensures) at (c .before .before .before .before .before .if3 .left) in
+    passes (frames 3 (a .mac) (a .target) (a .kind) (a .«data» .now) (search needs) (search needs) i) (c .before .before .write .ensures)
 
 pub write-spec : {M : Type 1} → statement M
 write-spec =
@@ -49,11 +67,14 @@ write-spec =
     (tie.spec
     returns
     returns-2
+    has-instance-requires
     returns-3
     cast-high
     cast-middle
     cast-low
-    cast-t21
+    array-read-t20
+    array-read-t24
+    cast-t25
     slice-aggregate-write
     write-requires
     same-length

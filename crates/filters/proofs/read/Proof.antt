@@ -1,4 +1,8 @@
+use Prim.Native.Nat.{_/_, _<_}
+use lib.ListN.{length}
+use native.Mathlib.Omega.{arith}
 use Rattle.refusal.specs.Test.{tests}
+use Rattle.filters.specs.Filters.{entrySize, entriesMost}
 use borrow.Author.Needs.{needs}
 use Rattle.filters.proofs.read.Statement.{statement}
 use Rattle.filters.proofs.read.Tie as tie
@@ -13,7 +17,9 @@ returns : tie.Need-returns
 returns c = search (tests, needs)
 
 returns-2 : tie.Need-returns-2
-returns-2 c = search (tests, needs)
+returns-2 c =
+    let h : entriesMost < length (c .before .before .args .s .now) / entrySize = omega arith in
+    search (tests, needs)
 
 shared-slice-read-mode : tie.Need-shared-slice-read-mode
 shared-slice-read-mode c = search needs

@@ -1,4 +1,5 @@
 use mathlib.Core.Path.{_∙_}
+use Rattle.command.specs.Known.{shape-told}
 use borrow.Author.Needs.{needs}
 use Rattle.line.proofs.arguments_fit.Statement.{statement}
 use Rattle.line.proofs.arguments_fit.Tie as tie
@@ -34,13 +35,13 @@ enum-told-2 : tie.Need-enum-told-2
 enum-told-2 c = search needs
 
 returns : tie.Need-returns
-returns c = rw (← c .before .before .shape-of .ensures, c .enum-told .given .1)
+returns c = rw (← shape-told (c .before .before .shape-of .result) _ (c .before .before .shape-of .ensures), c .enum-told .given .1)
 
 returns-2 : tie.Need-returns-2
-returns-2 c = c .fits2 .ensures ∙ rw (← c .before .before .before .before .before .before .before .before .shape-of .ensures, c .before .before .before .before .before .before .shape .given .1)
+returns-2 c = c .fits2 .ensures ∙ rw (← shape-told (c .before .before .before .before .before .before .before .before .shape-of .result) _ (c .before .before .before .before .before .before .before .before .shape-of .ensures), c .before .before .before .before .before .before .shape .given .1)
 
 returns-3 : tie.Need-returns-3
-returns-3 c = rw (← c .before .before .shape-of .ensures, c .enum-told2 .given .1)
+returns-3 c = rw (← shape-told (c .before .before .shape-of .result) _ (c .before .before .shape-of .ensures), c .enum-told2 .given .1)
 
 pub arguments-fit-spec : {M : Type 1} → statement M
 arguments-fit-spec =

@@ -1,3 +1,4 @@
+use Rattle.command.specs.Known.{shape-told}
 use borrow.Author.Needs.{needs}
 use Rattle.refusal.specs.Test.{tests}
 use Rattle.line.specs.Cases.{shape-extent}
@@ -26,13 +27,13 @@ unicast-extent-requires : tie.Need-unicast-extent-requires
 unicast-extent-requires c κs = search needs
 
 returns-2 : tie.Need-returns-2
-returns-2 c = shape-extent (c .before .before .before .before .before .before .args .s .now) _ _ (c .before .before .before .before .if1 .left) (c .before .before .shape-of .ensures) (rw (c .enum-told .given .1))
+returns-2 c = shape-extent (c .before .before .before .before .before .before .args .s .now) (c .before .before .shape-of .result) _ (c .before .before .before .before .if1 .left) (shape-told (c .before .before .shape-of .result) _ (c .before .before .shape-of .ensures)) (rw (c .enum-told .given .1))
 
 returns-3 : tie.Need-returns-3
-returns-3 c = shape-extent (c .before .before .before .before .before .before .args .s .now) _ _ (c .before .before .before .before .if1 .left) (c .before .before .shape-of .ensures) (rw (c .enum-told2 .given .1))
+returns-3 c = shape-extent (c .before .before .before .before .before .before .args .s .now) (c .before .before .shape-of .result) _ (c .before .before .before .before .if1 .left) (shape-told (c .before .before .shape-of .result) _ (c .before .before .shape-of .ensures)) (rw (c .enum-told2 .given .1))
 
 returns-4 : tie.Need-returns-4
-returns-4 c = shape-extent (c .before .before .before .before .before .before .before .args .s .now) _ _ (c .before .before .before .before .before .if1 .left) (c .before .before .before .shape-of .ensures) (rw (c .before .enum-told3 .given .1) (c .unicast-extent .ensures))
+returns-4 c = shape-extent (c .before .before .before .before .before .before .before .args .s .now) (c .before .before .before .shape-of .result) _ (c .before .before .before .before .before .if1 .left) (shape-told (c .before .before .before .shape-of .result) _ (c .before .before .before .shape-of .ensures)) (rw (c .before .enum-told3 .given .1) (c .unicast-extent .ensures))
 
 pub request-extent-spec : {M : Type 1} → statement M
 request-extent-spec =

@@ -1,6 +1,6 @@
 use Prim.Native.Nat.{_+_, _*_}
 use mathlib.Core.Path.{_≡_}
-use Rattle.order.specs.Order.{lowFirst, byteOf, numberOf, numberIn}
+use Rattle.order.specs.Order.{lowFirst, byteOf, numberBy, numberIn}
 use Rattle.refusal.specs.Test.{tests}
 use borrow.Author.Needs.{needs}
 use Rattle.maps.proofs.Append.{number-append}
@@ -53,7 +53,7 @@ add-t21 : tie.Need-add-t21
 add-t21 c = search needs
 
 returns-2 : tie.Need-returns-2
-unfolding numberOf
+unfolding numberBy
 returns-2 c =
     let first = c .before .before .before .before .before .low-first in
     let then = c .low-first2 in

@@ -1,4 +1,4 @@
-use Rattle.order.specs.Order.{numberOf}
+use Rattle.order.specs.Order.{numberBy}
 use native.Mathlib.Omega.{arith}
 use borrow.Author.Needs.{needs}
 use Rattle.maps.proofs.low_first.Statement.{statement}
@@ -23,7 +23,7 @@ add-result-3 : tie.Need-add-result-3
 add-result-3 c = search needs
 
 returns : tie.Need-returns
-unfolding numberOf
+unfolding numberBy
 returns c = omega arith
 
 pub low-first-spec : {M : Type 1} → statement M

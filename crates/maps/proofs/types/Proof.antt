@@ -1,4 +1,4 @@
-use Rattle.order.specs.Order.{numberOf}
+use Rattle.order.specs.Order.{numberBy}
 use Rattle.refusal.specs.Test.{tests}
 use borrow.Author.Needs.{needs}
 use Rattle.maps.proofs.types.Statement.{statement}
@@ -23,7 +23,7 @@ low-first-requires : tie.Need-low-first-requires
 low-first-requires c κs = search needs
 
 returns-2 : tie.Need-returns-2
-unfolding numberOf
+unfolding numberBy
 returns-2 c = search (tests, needs)
 
 pub types-spec : {M : Type 1} → statement M

@@ -1,4 +1,4 @@
-use Rattle.order.specs.Order.{numberOf}
+use Rattle.order.specs.Order.{numberBy}
 use native.Mathlib.Omega.{arith}
 use borrow.Author.Needs.{needs}
 use Rattle.order.proofs.high_first.Statement.{statement}
@@ -11,7 +11,7 @@ add-result : tie.Need-add-result
 add-result c = search needs
 
 returns : tie.Need-returns
-unfolding numberOf
+unfolding numberBy
 returns c = omega arith
 
 pub high-first-spec : {M : Type 1} → statement M

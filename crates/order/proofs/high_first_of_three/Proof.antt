@@ -1,4 +1,4 @@
-use Rattle.order.specs.Order.{numberOf}
+use Rattle.order.specs.Order.{numberBy}
 use native.Mathlib.Omega.{arith}
 use borrow.Author.Needs.{needs}
 use Rattle.order.proofs.high_first_of_three.Statement.{statement}
@@ -17,7 +17,7 @@ add-result-2 : tie.Need-add-result-2
 add-result-2 c = search needs
 
 returns : tie.Need-returns
-unfolding numberOf
+unfolding numberBy
 returns c = omega arith
 
 pub high-first-of-three-spec : {M : Type 1} → statement M

@@ -1,8 +1,9 @@
-use mathlib.Core.Path.{_≡_, sym}
+use mathlib.Core.Path.{_≡_, sym, ap, _∙_}
 use lib.Seq.{length-take-le}
 use borrow.Author.Needs.{needs}
 use native.Mathlib.Omega.{arith}
-use Rattle.stream.specs.declared.Step.the-variants.{More, Item as Settled}
+use Rattle.stream.specs.Stream.{More, Settled}
+use Rattle.stream.specs.Said.{saidStep}
 use Rattle.line.specs.Rule.{settle}
 use Rattle.reader.specs.Calls.{item-fits, wait-fits, begins, begins-not}
 use Rattle.reader.proofs.begin.Statement.{statement}
@@ -10,10 +11,10 @@ use Rattle.reader.proofs.begin.Tie as tie
 
 -- what the rule said of the part
 item-known : (c : tie.After-known-told) → settle (c .before .before .before .before .before .args .line) (c .before .before .before .before .before .args .part .now) ≡ Settled (c .before .step .given .0 .0) (c .before .step .given .0 .1 .0) (c .before .step .given .0 .1 .1 .0)
-item-known c = cc
+item-known c = sym (c .before .before .before .settled .ensures) ∙ ap saidStep (c .before .step .given .1)
 
 more-known : (c : tie.After-enum-told) → settle (c .before .before .before .before .args .line) (c .before .before .before .before .args .part .now) ≡ More
-more-known c = cc
+more-known c = sym (c .before .before .settled .ensures) ∙ ap saidStep (c .enum-told .given .1)
 
 settled-requires : tie.Need-settled-requires
 settled-requires c κs = search needs

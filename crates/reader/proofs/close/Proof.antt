@@ -1,77 +1,55 @@
-use mathlib.Core.Path.{_≡_}
-use lib.ListN.{take}
 use borrow.Author.Needs.{needs, length-unmapped}
 use native.Mathlib.Omega.{arith}
-use Rattle.stream.specs.declared.Step.the-variants.{More, Item as Settled}
-use Rattle.line.specs.Rule.{settle}
-use Rattle.reader.specs.Calls.{item-fits, front-fits, closes-empty, closes-item, closes-short}
-use Rattle.reader.specs.Reader.{pad}
+use Rattle.reader.specs.Calls.{at-fits, front-fits, closes-item, closes-nothing}
 use Rattle.reader.proofs.close.Statement.{statement}
 use Rattle.reader.proofs.close.Tie as tie
-
--- what the rule said of the bytes held
-item-known : (c : tie.After-known-told) → settle (c .before .before .before .before .before .before .before .before .args .line) (take (c .before .before .before .before .before .before .before .holds .result) (c .before .before .before .before .before .before .before .before .args .h .bytes)) ≡ Settled (c .before .step .given .0 .0) (c .before .step .given .0 .1 .0) (c .before .step .given .0 .1 .1 .0)
-item-known c = cc
-
-more-known : (c : tie.After-enum-told) → settle (c .before .before .before .before .before .before .before .args .line) (take (c .before .before .before .before .before .before .holds .result) (c .before .before .before .before .before .before .before .args .h .bytes)) ≡ More
-more-known c = cc
 
 holds-requires : tie.Need-holds-requires
 holds-requires c κs = search needs
 
-fresh-requires : tie.Need-fresh-requires
-fresh-requires c κs = search needs
-
-returns : tie.Need-returns
-unfolding pad
-returns c = closes-empty _ _ _ (c .before .before .holds .ensures) _ (c .before .if1 .taken) (search (c .fresh .ensures, needs))
-
 array-share-prefix-bytes : tie.Need-array-share-prefix-bytes
-array-share-prefix-bytes c = front-fits _ _ _ (c .before .before .holds .ensures) (search (length-unmapped, needs)) .1
+array-share-prefix-bytes c = front-fits _ _ _ (c .before .holds .ensures) (search (length-unmapped, needs)) .1
 
 slice-aggregate-held : tie.Need-slice-aggregate-held
-slice-aggregate-held c = front-fits _ _ _ (c .before .before .before .holds .ensures) (search (length-unmapped, needs)) .2
+slice-aggregate-held c = front-fits _ _ _ (c .before .before .holds .ensures) (search (length-unmapped, needs)) .2
 
-settled-requires : tie.Need-settled-requires
-settled-requires c κs = search needs
+item-at-requires : tie.Need-item-at-requires
+item-at-requires c κs = search needs
 
-enum-known-step : tie.Need-enum-known-step
-enum-known-step c = search needs
+enum-known-at : tie.Need-enum-known-at
+enum-known-at c = search needs
 
 cut-requires : tie.Need-cut-requires
 cut-requires c κs =
-    let w = front-fits _ _ _ (c .before .before .before .before .before .before .before .holds .ensures) (search (length-unmapped, needs)) in
-    let f = item-fits _ _ _ _ _ (item-known c) in
+    let w = front-fits _ _ _ (c .before .before .before .before .before .before .holds .ensures) (search (length-unmapped, needs)) in
+    let f = at-fits _ _ _ (c .before .before .before .item-at .result) _ _ (c .before .before .before .item-at .ensures) (c .before .at .given .1) in
     (omega arith, omega arith, omega arith)
 
 enum-told : tie.Need-enum-told
 enum-told c = search needs
 
-cut-requires-2 : tie.Need-cut-requires-2
-cut-requires-2 c κs =
-    let w = front-fits _ _ _ (c .before .before .before .before .before .before .holds .ensures) (search (length-unmapped, needs)) in
-    let z = c .before .before .before .before .before .if1 .left in
-    (omega arith, omega arith, omega arith)
+nothing-requires : tie.Need-nothing-requires
+nothing-requires c κs =
+    let w = front-fits _ _ _ (c .before .before .before .before .before .holds .ensures) (search (length-unmapped, needs)) in
+    omega arith
+
+returns : tie.Need-returns
+returns c = closes-item _ _ _ (c .before .before .before .before .before .before .before .holds .ensures) (c .before .before .before .before .item-at .result) _ _ _ (c .before .before .before .before .item-at .ensures) (c .before .before .at .given .1) (rw (c .cut .ensures))
 
 returns-2 : tie.Need-returns-2
-returns-2 c = closes-item _ _ _ (c .before .before .before .before .before .before .before .before .holds .ensures) _ _ _ _ (c .before .before .before .before .before .before .before .if1 .left) (item-known (c .before)) (rw (c .cut .ensures))
-
-returns-3 : tie.Need-returns-3
-returns-3 c = closes-short _ _ _ (c .before .before .before .before .before .before .before .holds .ensures) _ (c .before .before .before .before .before .before .if1 .left) (more-known (c .before)) (rw (c .cut2 .ensures))
+returns-2 c = closes-nothing _ _ _ (c .before .before .before .before .before .before .holds .ensures) (c .before .before .before .item-at .result) _ (c .before .before .before .item-at .ensures) (c .before .enum-told .given .1) (rw (c .nothing .ensures))
 
 pub close-spec : {M : Type 1} → statement M
 close-spec =
     tie.close
     (tie.spec
     holds-requires
-    fresh-requires
-    returns
     array-share-prefix-bytes
     slice-aggregate-held
-    settled-requires
-    enum-known-step
+    item-at-requires
+    enum-known-at
     cut-requires
     enum-told
-    cut-requires-2
-    returns-2
-    returns-3)
+    nothing-requires
+    returns
+    returns-2)

@@ -15,10 +15,13 @@ use Rattle.reader.proofs.join.Tie as tie
 record Some (c : tie.Joined1) : Type 0 where
   there : c .if1 .t ≤ length (c .before .before .before .before .args .part .now)
   room : c .if1 .t ≤ suc (capOf (c .before .before .before .before .args .line)) - length (c .before .before .before .before .args .held .now)
-  all : c .if1 .t < suc (capOf (c .before .before .before .before .args .line)) - length (c .before .before .before .before .args .held .now) → c .if1 .t ≡ length (c .before .before .before .before .args .part .now)
+  all : c .if1 .t < suc (capOf (c .before .before .before .before .args .line)) - length (c .before .before .before .before .args .held .now)
+      → c .if1 .t ≡ length (c .before .before .before .before .args .part .now)
 
 some : (c : tie.Joined1) → Some c
-some c = ⊎-elim (λ w. record { there = omega arith; room = omega arith; all = λ l. omega arith }) (λ w. record { there = omega arith; room = omega arith; all = λ l. omega arith }) (c .if1 .came)
+some c =
+    ⊎-elim (λ w. record { there = omega arith; room = omega arith; all = λ l. omega arith })
+    (λ w. record { there = omega arith; room = omega arith; all = λ l. omega arith }) (c .if1 .came)
 
 most-requires : tie.Need-most-requires
 most-requires c κs = search needs
@@ -29,23 +32,26 @@ add-room c = omega (arith, cap-fits (c .before .before .before .args .line))
 sub-room : tie.Need-sub-room
 sub-room c = search needs
 
-wide-requires : tie.Need-wide-requires
-wide-requires c κs = omega (arith, cap-fits (c .before .before .before .before .args .line))
+slice-aggregate-word : tie.Need-slice-aggregate-word
+slice-aggregate-word c = search needs
 
-slice-aggregate-append : tie.Need-slice-aggregate-append
-slice-aggregate-append c = sym (length-take-le _ _ (some (c .before .before) .there))
+word-requires : tie.Need-word-requires
+word-requires c κs = search needs
 
-append-requires : tie.Need-append-requires
-append-requires c κs = let f = cap-fits (c .before .before .before .before .before .before .args .line) in rw (length-take-le _ _ (some (c .before .before) .there)) (omega (arith, some (c .before .before) .room))
+slice-aggregate-word-2 : tie.Need-slice-aggregate-word-2
+slice-aggregate-word-2 c = search needs
 
-add-t9 : tie.Need-add-t9
-add-t9 c = omega (arith, some (c .before .before .before .before) .room, cap-fits (c .before .before .before .before .before .before .before .before .args .line))
+slice-aggregate-word-3 : tie.Need-slice-aggregate-word-3
+slice-aggregate-word-3 c = sym (length-take-le _ _ (some (c .before .before .before .before .before) .there))
+
+word-requires-2 : tie.Need-word-requires-2
+word-requires-2 c κs = search needs
 
 returns : tie.Need-returns
 returns c =
-    let w = some (c .before .before .before .before) in
-    let a = c .before .before .before .before .before .before .before .before in
-    joins (a .args .line) (a .args .held .now) (a .args .part .now) _ _ _ (a .pre) (w .there) (w .room) (w .all) (c .before .before .before .wide .ensures) (c .before .append .ensures)
+    let w = some (c .before .before .before .before .before .before .before) in
+    let a = c .before .before .before .before .before .before .before .before .before .before .before in
+    joins (a .args .line) (a .args .held .now) (a .args .part .now) _ _ _ _ _ (a .pre) (w .there) (w .room) (w .all) (c .before .before .before .before .before .word .ensures) (c .before .word2 .ensures)
 
 pub join-spec : {M : Type 1} → statement M
 join-spec =
@@ -54,8 +60,9 @@ join-spec =
     most-requires
     add-room
     sub-room
-    wide-requires
-    slice-aggregate-append
-    append-requires
-    add-t9
+    slice-aggregate-word
+    word-requires
+    slice-aggregate-word-2
+    slice-aggregate-word-3
+    word-requires-2
     returns)

@@ -1,10 +1,11 @@
-use mathlib.Core.Path.{_≡_, sym}
+use mathlib.Core.Path.{_≡_, sym, ap, _∙_}
 use lib.ListN.{take, length-take}
 use lib.Seq.{length-take-le}
 use borrow.Author.Needs.{needs}
 use native.Mathlib.Omega.{arith}
 use Rattle.line.specs.Laws.{waits-few}
-use Rattle.stream.specs.declared.Step.the-variants.{More, Item as Settled}
+use Rattle.stream.specs.Stream.{More, Settled}
+use Rattle.stream.specs.Said.{saidStep}
 use Rattle.line.specs.Rule.{settle}
 use Rattle.reader.specs.Calls.{item-fits, wait-fits, window-fits, window-takes, resumes, resumes-not}
 use Rattle.reader.proofs.resume.Statement.{statement}
@@ -12,10 +13,10 @@ use Rattle.reader.proofs.resume.Tie as tie
 
 -- what the rule said of the window
 item-known : (c : tie.After-known-told) → settle (c .before .before .before .before .before .before .before .before .before .args .line) (take (c .before .before .before .before .before .before .join .result .len) (c .before .before .before .before .before .before .join .result .bytes)) ≡ Settled (c .before .step .given .0 .0) (c .before .step .given .0 .1 .0) (c .before .step .given .0 .1 .1 .0)
-item-known c = cc
+item-known c = sym (c .before .before .before .settled .ensures) ∙ ap saidStep (c .before .step .given .1)
 
 more-known : (c : tie.After-enum-told) → settle (c .before .before .before .before .before .before .before .before .args .line) (take (c .before .before .before .before .before .join .result .len) (c .before .before .before .before .before .join .result .bytes)) ≡ More
-more-known c = cc
+more-known c = sym (c .before .before .settled .ensures) ∙ ap saidStep (c .enum-told .given .1)
 
 join-requires : tie.Need-join-requires
 join-requires c κs = waits-few _ _ (c .before .before .pre)

@@ -2,7 +2,8 @@ use mathlib.Core.Path.{_≡_}
 use native.Mathlib.Omega.{arith}
 use borrow.Author.Tests.{eq-eqb, ne-eqb}
 use Rattle.refusal.specs.Answer.{full, told}
-use Rattle.reply.specs.Reading.{readReply, read-fits, said}
+use Rattle.reply.specs.Reading.{readReply, said}
+use Rattle.reply.specs.Fits.{read-fits}
 use borrow.Author.Needs.{needs}
 use Rattle.reply.proofs.error_code.Statement.{statement}
 use Rattle.reply.proofs.error_code.Tie as tie

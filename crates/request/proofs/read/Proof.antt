@@ -1,4 +1,5 @@
-use Rattle.request.specs.Reading.{readRequest, shape-read}
+use Rattle.request.specs.Reading.{readRequest}
+use Rattle.request.specs.Reads.{numbers-read}
 use Rattle.refusal.specs.Test.{tests}
 use borrow.Author.Needs.{needs}
 use Rattle.request.proofs.read.Statement.{statement}
@@ -37,16 +38,16 @@ read-unicast-requires : tie.Need-read-unicast-requires
 read-unicast-requires c κs = search needs
 
 returns-3 : tie.Need-returns-3
-returns-3 c = shape-read (c .before .before .before .before .before .before .before .before .args .s .now) (c .before .before .shape-of .result) _ (search needs) (c .before .before .before .before .if2 .left) (c .before .before .shape-of .ensures) (rw (c .enum-told .given .1))
+returns-3 c = numbers-read (c .before .before .before .before .before .before .before .before .args .s .now) (c .before .before .shape-of .result) _ (search needs) (c .before .before .before .before .if2 .left) (c .before .before .shape-of .ensures) (rw (c .enum-told .given .1))
 
 returns-4 : tie.Need-returns-4
 returns-4 c =
-    shape-read (c .before .before .before .before .before .before .before .before .before .before .args .s .now) (c .before .before .before .before .shape-of .result) _ (search needs) (c .before .before .before .before .before .before .if2 .left) (c .before .before .before .before .shape-of .ensures)
+    numbers-read (c .before .before .before .before .before .before .before .before .before .before .args .s .now) (c .before .before .before .before .shape-of .result) _ (search needs) (c .before .before .before .before .before .before .if2 .left) (c .before .before .before .before .shape-of .ensures)
     (rw (c .before .before .shape .given .1) (c .read-basic .ensures))
 
 returns-5 : tie.Need-returns-5
 returns-5 c =
-    shape-read (c .before .before .before .before .before .before .before .before .before .args .s .now) (c .before .before .before .shape-of .result) _ (search needs) (c .before .before .before .before .before .if2 .left) (c .before .before .before .shape-of .ensures)
+    numbers-read (c .before .before .before .before .before .before .before .before .before .args .s .now) (c .before .before .before .shape-of .result) _ (search needs) (c .before .before .before .before .before .if2 .left) (c .before .before .before .shape-of .ensures)
     (rw (c .before .enum-told2 .given .1) (c .read-unicast .ensures))
 
 pub read-spec : {M : Type 1} → statement M

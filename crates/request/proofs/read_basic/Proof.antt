@@ -1,4 +1,6 @@
-use Rattle.request.specs.Reading.{readBasic, basic-accepts}
+use Rattle.meaning.specs.Meaning.{saidMeaning}
+use Rattle.request.specs.Reading.{readBasic}
+use Rattle.request.specs.Reads.{basic-accepts}
 use Rattle.refusal.specs.Test.{tests}
 use mathlib.Core.Path.{sym, _∙_}
 use borrow.Author.Needs.{needs}
@@ -48,7 +50,7 @@ shared-slice-read-t18 c = search needs
 
 returns-4 : tie.Need-returns-4
 returns-4 c =
-    basic-accepts (c .before .before .before .before .before .before .before .before .before .before .before .before .before .args .rule) (c .before .before .before .before .before .before .before .before .before .before .before .before .before .args .s .now) (c .before .before .meaning-of .result) (search needs) (sym (c .before .before .before .before .before .before .before .before .before .before .xor .ensures) ∙ search needs)
+    basic-accepts (c .before .before .before .before .before .before .before .before .before .before .before .before .before .args .rule) (c .before .before .before .before .before .before .before .before .before .before .before .before .before .args .s .now) (saidMeaning (c .before .before .meaning-of .result)) (search needs) (sym (c .before .before .before .before .before .before .before .before .before .before .xor .ensures) ∙ search needs)
     (sym (c .before .before .before .before .fits2 .ensures) ∙ not-false (c .before .before .before .before .fits2 .result) (c .before .before .before .if3 .left))
     (c .before .before .meaning-of .ensures)
 

@@ -1,5 +1,6 @@
 use borrow.Author.Needs.{needs}
 use borrow.Author.Tests.{not-true, not-false}
+use Rattle.command.specs.Known.{shape-told}
 use Rattle.frame.specs.Written.{refuses, passes}
 use Rattle.request.proofs.write_basic.Statement.{statement}
 use Rattle.request.proofs.write_basic.Tie as tie
@@ -16,7 +17,7 @@ fits-requires c κs = search needs
 returns : tie.Need-returns
 returns c =
     refuses (c .before .before .before .before .before .before .before .args .out .now)
-    (rw (← c .before .before .before .before .before .shape-of .ensures, c .before .before .before .shape .given .1, ← c .before .fits2 .ensures, not-true (c .before .fits2 .result) (c .if1 .taken)))
+    (rw (← shape-told (c .before .before .before .before .before .shape-of .result) _ (c .before .before .before .before .before .shape-of .ensures), c .before .before .before .shape .given .1, ← c .before .fits2 .ensures, not-true (c .before .fits2 .result) (c .if1 .taken)))
 
 slice-aggregate-write : tie.Need-slice-aggregate-write
 slice-aggregate-write c = search needs
@@ -39,14 +40,14 @@ same-length c = search needs
 returns-2 : tie.Need-returns-2
 returns-2 c =
     passes
-    (rw (← c .before .before .before .before .before .before .before .before .before .before .before .shape-of .ensures, c .before .before .before .before .before .before .before .before .before .shape .given .1, ← c .before .before .before .before .before .before .before .fits2 .ensures, not-false (c .before .before .before .before .before .before .before .fits2 .result) (c .before .before .before .before .before .before .if1 .left)))
+    (rw (← shape-told (c .before .before .before .before .before .before .before .before .before .before .before .shape-of .result) _ (c .before .before .before .before .before .before .before .before .before .before .before .shape-of .ensures), c .before .before .before .before .before .before .before .before .before .shape .given .1, ← c .before .before .before .before .before .before .before .fits2 .ensures, not-false (c .before .before .before .before .before .before .before .fits2 .result) (c .before .before .before .before .before .before .if1 .left)))
     (c .before .before .write .ensures)
 
 returns-3 : tie.Need-returns-3
-returns-3 c = refuses (c .before .before .before .before .args .out .now) (rw (← c .before .before .shape-of .ensures, c .enum-told .given .1))
+returns-3 c = refuses (c .before .before .before .before .args .out .now) (rw (← shape-told (c .before .before .shape-of .result) _ (c .before .before .shape-of .ensures), c .enum-told .given .1))
 
 returns-4 : tie.Need-returns-4
-returns-4 c = refuses (c .before .before .before .before .args .out .now) (rw (← c .before .before .shape-of .ensures, c .enum-told2 .given .1))
+returns-4 c = refuses (c .before .before .before .before .args .out .now) (rw (← shape-told (c .before .before .shape-of .result) _ (c .before .before .shape-of .ensures), c .enum-told2 .given .1))
 
 pub write-basic-spec : {M : Type 1} → statement M
 write-basic-spec =

@@ -2,7 +2,8 @@ use Prim.Native.Nat.{_≤_, _-_}
 use mathlib.Core.Path.{_≡_, sym, _∙_}
 use lib.ListN.{length, drop}
 use borrow.Author.Needs.{needs}
-use Rattle.sum.specs.Sum.{sumFrom, sumOf, sum-turn, sum-done}
+use Rattle.sum.specs.Sum.{sumFrom, sumOf}
+use Rattle.sum.specs.Sums.{sum-turn, sum-done}
 use Rattle.sum.proofs.xor.Statement.{statement}
 use Rattle.sum.proofs.xor.Tie as tie
 

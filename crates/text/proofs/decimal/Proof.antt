@@ -5,7 +5,7 @@ use lib.ListN.{length, length-set}
 use native.Mathlib.Omega.{arith}
 use borrow.Author.Needs.{needs}
 use Rattle.text.specs.Text.{decimalOf}
-use Rattle.text.specs.Decimal.{lastDigits, decimal-last}
+use Rattle.text.specs.Digits.{lastDigits, decimal-last}
 use Rattle.lent.specs.Puts.{over, over-none, no-room, room}
 use Rattle.text.specs.Spell.{spell}
 use Rattle.text.proofs.decimal.Statement.{statement}

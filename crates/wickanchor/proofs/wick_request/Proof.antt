@@ -1,5 +1,5 @@
 use Rattle.refusal.specs.Answer.{told}
-use Rattle.request.specs.Reading.{said}
+use Rattle.request.specs.Said.{said}
 use borrow.Author.Needs.{needs}
 use Rattle.wickanchor.proofs.wick_request.Statement.{statement}
 use Rattle.wickanchor.proofs.wick_request.Tie as tie

@@ -1,0 +1,44 @@
+use borrow.Author.Needs.{needs}
+use Rattle.bench_book.proofs.number.Statement.{statement}
+use Rattle.bench_book.proofs.number.Tie as tie
+
+enum-known-g : tie.Need-enum-known-g
+enum-known-g c = search needs
+
+slice-aggregate-small : tie.Need-slice-aggregate-small
+slice-aggregate-small c = search needs
+
+small-requires : tie.Need-small-requires
+small-requires c κs = search needs
+
+enum-known-g-2 : tie.Need-enum-known-g-2
+enum-known-g-2 c = search needs
+
+refusal-requires : tie.Need-refusal-requires
+refusal-requires c κs = search needs
+
+same-length : tie.Need-same-length
+same-length c = search needs
+
+returns : tie.Need-returns
+returns c = rw (c .before .before .before .before .before .before .g .given .1) (c .before .before .small .ensures)
+
+same-length-2 : tie.Need-same-length-2
+same-length-2 c = search needs
+
+returns-2 : tie.Need-returns-2
+returns-2 c = rw (c .before .before .before .before .before .g2 .given .1) (c .before .before .refusal .ensures)
+
+pub number-spec : {M : Type 1} → statement M
+number-spec =
+    tie.close
+    (tie.spec
+    enum-known-g
+    slice-aggregate-small
+    small-requires
+    enum-known-g-2
+    refusal-requires
+    same-length
+    returns
+    same-length-2
+    returns-2)

@@ -1,0 +1,4 @@
+-- what the contracts cite
+pub mod Pages
+-- what only serves proofs
+pub mod Turns

@@ -1,0 +1,92 @@
+-- docs/BENCH.md: the calls, in its order, with the groups that each takes.
+use Prim.Native.Nat.{ℕ, suc}
+use Prim.Native.String.{String}
+use mathlib.Core.Bool.{Bool, true, false}
+use mathlib.Core.List.{List, [], _∷_}
+use lib.Dec.{eqb}
+use Rattle.refusal.specs.Test.{pick}
+use Rattle.bench_say.specs.Said.{text}
+
+-- a call's name, and as digits of one hexadecimal number: its own number (2 digits), how many groups it takes (1), how many bytes the
+-- first has at least (3) and at most (3), and how many the second has at most (3). FFF is any: no line names so many bytes
+pub data Row : Type 0 where
+  row : String → ℕ → Row
+
+abbrev pub table : List Row
+table =
+    -- Datagrams
+    row "request" 0x10_1_000_FFF_FFF
+    ∷ row "write_basic" 0x11_2_006_006_FFF
+    ∷ row "write_unicast" 0x12_2_007_007_FFF
+    ∷ row "reply" 0x13_1_000_FFF_FFF
+    ∷ row "reply_data" 0x14_1_000_FFF_FFF
+    ∷ row "error_code" 0x15_1_000_FFF_FFF
+    ∷ row "write_reply" 0x16_3_002_002_FFF
+    ∷ row "event" 0x17_1_000_FFF_FFF
+    ∷ row "event_data" 0x18_1_000_FFF_FFF
+    ∷ row "write_event" 0x19_3_00B_00B_FFF
+    -- Parts of datagrams
+    ∷ row "sum" 0x20_1_000_FFF_FFF
+    ∷ row "frame" 0x21_3_000_FFF_FFF
+    ∷ row "known" 0x22_1_001_001_FFF
+    ∷ row "shape" 0x23_1_001_001_FFF
+    ∷ row "fits" 0x24_1_005_005_FFF
+    ∷ row "error_name" 0x25_1_001_001_FFF
+    ∷ row "event_type" 0x26_1_001_001_FFF
+    ∷ row "group_target" 0x27_1_001_001_FFF
+    ∷ row "lights" 0x28_1_001_001_FFF
+    ∷ row "status" 0x29_1_001_001_FFF
+    ∷ row "device" 0x2A_1_001_001_FFF
+    ∷ row "device_number" 0x2B_1_001_001_FFF
+    -- Reply data
+    ∷ row "high_first" 0x30_1_002_002_FFF
+    ∷ row "mask" 0x31_1_000_FFF_FFF
+    ∷ row "count_types" 0x32_1_002_002_FFF
+    ∷ row "lowest_type" 0x33_1_002_002_FFF
+    ∷ row "scenes" 0x34_1_000_FFF_FFF
+    ∷ row "gear" 0x35_1_000_FFF_FFF
+    ∷ row "count_gear" 0x36_1_008_008_FFF
+    ∷ row "lowest_gear" 0x37_1_008_008_FFF
+    ∷ row "types" 0x38_1_000_FFF_FFF
+    ∷ row "filters" 0x39_1_000_FFF_FFF
+    ∷ row "filter" 0x3A_2_008_008_FFF
+    -- The book of unanswered requests
+    ∷ row "book_fresh" 0x40_1_000_000_FFF
+    ∷ row "book_set" 0x41_2_001_001_100
+    ∷ row "ask" 0x42_1_001_001_FFF
+    ∷ row "answer" 0x43_1_001_001_FFF
+    ∷ row "book_show" 0x44_1_000_000_FFF
+    -- Lines: the request line, the reply line
+    ∷ row "fresh_request" 0x50_1_000_000_FFF
+    ∷ row "hold_request" 0x51_2_008_008_043
+    ∷ row "feed_request" 0x52_1_000_FFF_FFF
+    ∷ row "close_request" 0x53_1_000_000_FFF
+    ∷ row "show_request" 0x54_1_000_000_FFF
+    ∷ row "settle_request" 0x55_1_000_FFF_FFF
+    ∷ row "fresh_reply" 0x60_1_000_000_FFF
+    ∷ row "hold_reply" 0x61_2_008_008_043
+    ∷ row "feed_reply" 0x62_1_000_FFF_FFF
+    ∷ row "close_reply" 0x63_1_000_000_FFF
+    ∷ row "show_reply" 0x64_1_000_000_FFF
+    ∷ row "settle_reply" 0x65_1_000_FFF_FFF
+    ∷ []
+
+-- whether two runs are the same
+unfoldable pub sameAs : List ℕ → List ℕ → Bool
+sameAs [] [] = true
+sameAs [] (y ∷ t) = false
+sameAs (x ∷ s) [] = false
+sameAs (x ∷ s) (y ∷ t) = pick (eqb x y) (sameAs s t) false
+
+-- the number of the first row that has this name, or 0
+unfoldable pub rowIn : List Row → List ℕ → ℕ
+rowIn [] name = 0
+rowIn (row s n ∷ rows) name = pick (sameAs (text s) name) n (rowIn rows name)
+
+unfoldable pub rowOf : List ℕ → ℕ
+rowOf name = rowIn table name
+
+-- the place of the first of some names that is this one, or how many there are
+unfoldable pub placeIn : List ℕ → List (List ℕ) → ℕ
+placeIn name [] = 0
+placeIn name (w ∷ ws) = pick (sameAs w name) 0 (suc (placeIn name ws))

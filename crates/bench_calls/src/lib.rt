@@ -1,0 +1,193 @@
+// The calls of the bench: a constant table of their names, numbers and groups, and what a line calls by it. docs/BENCH.md,
+// "What is no call". It leans on crate bench_words, which takes a line apart, and on crate bench_say.
+ghost use Prim.Native.Nat.{_≤_};
+ghost use mathlib.Core.Path.{_≡_};
+ghost use lib.ListN.{length};
+ghost use Rattle.bench_say.specs.Said.{PutsAll};
+ghost use Rattle.bench_words.specs.Words.{wordsAt};
+ghost use Rattle.bench_calls.specs.Table.{sameAs, placeIn, rowOf};
+ghost use Rattle.bench_calls.specs.Called.{measuredOf, Calls, refusedTexts};
+use bench_words::Groups;
+use bench_words::Parsed;
+
+// A line's call, by its number in the table, with its groups; or that it is none.
+pub struct Call {
+    pub number: usize,
+    pub groups: Groups,
+}
+
+pub enum Called {
+    NoSuchCall,
+    NotAByte,
+    WrongGroups,
+    WrongBytes,
+    Call(Call),
+}
+
+// A row for each call: its number, how many groups it takes, how many bytes the first has at least and at most, and how
+// many the second has at most, as digits of one hexadecimal number. FFF is more than a line can name. A third group may
+// have any. The first digit of a call's number is its family; new calls stand behind those of theirs.
+const ROWS: [usize; 50] = [
+    // Datagrams
+    0x10_1_000_FFF_FFF, // request
+    0x11_2_006_006_FFF, // write_basic
+    0x12_2_007_007_FFF, // write_unicast
+    0x13_1_000_FFF_FFF, // reply
+    0x14_1_000_FFF_FFF, // reply_data
+    0x15_1_000_FFF_FFF, // error_code
+    0x16_3_002_002_FFF, // write_reply
+    0x17_1_000_FFF_FFF, // event
+    0x18_1_000_FFF_FFF, // event_data
+    0x19_3_00B_00B_FFF, // write_event
+    // Parts of datagrams
+    0x20_1_000_FFF_FFF, // sum
+    0x21_3_000_FFF_FFF, // frame
+    0x22_1_001_001_FFF, // known
+    0x23_1_001_001_FFF, // shape
+    0x24_1_005_005_FFF, // fits
+    0x25_1_001_001_FFF, // error_name
+    0x26_1_001_001_FFF, // event_type
+    0x27_1_001_001_FFF, // group_target
+    0x28_1_001_001_FFF, // lights
+    0x29_1_001_001_FFF, // status
+    0x2A_1_001_001_FFF, // device
+    0x2B_1_001_001_FFF, // device_number
+    // Reply data
+    0x30_1_002_002_FFF, // high_first
+    0x31_1_000_FFF_FFF, // mask
+    0x32_1_002_002_FFF, // count_types
+    0x33_1_002_002_FFF, // lowest_type
+    0x34_1_000_FFF_FFF, // scenes
+    0x35_1_000_FFF_FFF, // gear
+    0x36_1_008_008_FFF, // count_gear
+    0x37_1_008_008_FFF, // lowest_gear
+    0x38_1_000_FFF_FFF, // types
+    0x39_1_000_FFF_FFF, // filters
+    0x3A_2_008_008_FFF, // filter
+    // The book of unanswered requests
+    0x40_1_000_000_FFF, // book_fresh
+    0x41_2_001_001_100, // book_set
+    0x42_1_001_001_FFF, // ask
+    0x43_1_001_001_FFF, // answer
+    0x44_1_000_000_FFF, // book_show
+    // Lines: the request line, the reply line
+    0x50_1_000_000_FFF, // fresh_request
+    0x51_2_008_008_043, // hold_request
+    0x52_1_000_FFF_FFF, // feed_request
+    0x53_1_000_000_FFF, // close_request
+    0x54_1_000_000_FFF, // show_request
+    0x55_1_000_FFF_FFF, // settle_request
+    0x60_1_000_000_FFF, // fresh_reply
+    0x61_2_008_008_043, // hold_reply
+    0x62_1_000_FFF_FFF, // feed_reply
+    0x63_1_000_000_FFF, // close_reply
+    0x64_1_000_000_FFF, // show_reply
+    0x65_1_000_FFF_FFF, // settle_reply
+];
+
+// Whether two runs hold the same bytes.
+fn same(s: &[u8], t: &[u8]) -> bool
+    ensures { λ r. ⌜ r ≡ sameAs (now (s .entry)) (now (t .entry)) ⌝ }
+{
+    if s.len() != t.len() {
+        return false;
+    }
+    let mut i: usize = 0;
+    while i < s.len() {
+        if s[i] != t[i] {
+            return false;
+        }
+        i += 1;
+    }
+    true
+}
+
+// The place of the first of some names that is this one, or how many there are. The names are parted by blanks.
+fn place(names: &[u8], name: &[u8]) -> usize
+    ensures { λ r. ⌜ r ≡ placeIn (now (name .entry)) (wordsAt 0 (now (names .entry))) ⌝ }
+{
+    let mut i: usize = 0;
+    let mut k: usize = 0;
+    while i <= names.len() {
+        let e = bench_words::until(names, i, b' ');
+        if same(&names[i..e], name) {
+            return k;
+        }
+        i = e + 1;
+        k += 1;
+    }
+    k
+}
+
+// The row of a name, or 0. The names stand in the order of the rows.
+fn row_of(name: &[u8]) -> usize
+    ensures { λ r. ⌜ r ≡ rowOf (now (name .entry)) ⌝ }
+{
+    let k = place(
+        b"request write_basic write_unicast reply reply_data error_code write_reply event event_data \
+write_event sum frame known shape fits error_name event_type group_target lights status device \
+device_number high_first mask count_types lowest_type scenes gear count_gear lowest_gear types \
+filters filter book_fresh book_set ask answer book_show fresh_request hold_request feed_request \
+close_request show_request settle_request fresh_reply hold_reply feed_reply close_reply show_reply \
+settle_reply",
+        name,
+    );
+    if k < 50 { ROWS[k] } else { 0 }
+}
+
+// Whether the groups are those that the row asks for.
+fn measured(row: usize, g: Groups) -> Called
+    ensures { λ r. ⌜ r ≡ measuredOf row g ⌝ }
+{
+    let a = g.a;
+    let b = g.b;
+    if row / 0x1_000_000_000 % 16 != g.count {
+        return Called::WrongGroups;
+    }
+    if a < row / 0x1_000_000 % 0x1000 {
+        return Called::WrongBytes;
+    }
+    if row / 0x1000 % 0x1000 < a {
+        return Called::WrongBytes;
+    }
+    if b < a {
+        return Called::WrongBytes;
+    }
+    if row % 0x1000 < b - a {
+        return Called::WrongBytes;
+    }
+    Called::Call(Call {
+        number: row / 0x10_000_000_000,
+        groups: g,
+    })
+}
+
+// What a line with a word in it calls. The bytes of its groups are put to the front of the run that is lent.
+pub fn read(line: &[u8], bytes: &mut [u8]) -> Called
+    ensures { λ r. ⌜ Calls (now (line .entry)) (now (bytes .entry)) r (now (bytes .exit)) ⌝ }
+{
+    let a = bench_words::first(line);
+    let e = bench_words::until(line, a, b' ');
+    let row = row_of(&line[a..e]);
+    if row == 0 {
+        return Called::NoSuchCall;
+    }
+    let p = bench_words::parse(line, e, bytes);
+    match p {
+        Parsed::NotAByte => Called::NotAByte,
+        Parsed::Groups(g) => measured(row, g),
+    }
+}
+
+// The answer to a line that is no call.
+pub fn refused(out: &mut [u8], at: usize, c: Called) -> usize
+    ensures { λ r. ⌜ PutsAll (refusedTexts c) (now (out .entry)) at r (now (out .exit)) ⌝ }
+{
+    match c {
+        Called::NoSuchCall => bench_say::word(out, at, b"? no such call"),
+        Called::NotAByte => bench_say::word(out, at, b"? not a byte"),
+        Called::WrongGroups => bench_say::word(out, at, b"? wrong number of groups"),
+        Called::WrongBytes => bench_say::word(out, at, b"? wrong number of bytes"),
+        Called::Call(_) => at,
+    }
+}

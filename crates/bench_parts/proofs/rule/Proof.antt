@@ -1,0 +1,308 @@
+use borrow.Author.Needs.{needs}
+use Rattle.bench_parts.proofs.rule.Statement.{statement}
+use Rattle.bench_parts.proofs.rule.Tie as tie
+
+enum-told : tie.Need-enum-told
+enum-told c = search needs
+
+slice-aggregate-word : tie.Need-slice-aggregate-word
+slice-aggregate-word c = search needs
+
+word-requires : tie.Need-word-requires
+word-requires c κs = search needs
+
+enum-told-2 : tie.Need-enum-told-2
+enum-told-2 c = search needs
+
+slice-aggregate-word-2 : tie.Need-slice-aggregate-word-2
+slice-aggregate-word-2 c = search needs
+
+word-requires-2 : tie.Need-word-requires-2
+word-requires-2 c κs = search needs
+
+enum-told-3 : tie.Need-enum-told-3
+enum-told-3 c = search needs
+
+slice-aggregate-word-3 : tie.Need-slice-aggregate-word-3
+slice-aggregate-word-3 c = search needs
+
+word-requires-3 : tie.Need-word-requires-3
+word-requires-3 c κs = search needs
+
+enum-told-4 : tie.Need-enum-told-4
+enum-told-4 c = search needs
+
+slice-aggregate-word-4 : tie.Need-slice-aggregate-word-4
+slice-aggregate-word-4 c = search needs
+
+word-requires-4 : tie.Need-word-requires-4
+word-requires-4 c κs = search needs
+
+enum-told-5 : tie.Need-enum-told-5
+enum-told-5 c = search needs
+
+slice-aggregate-word-5 : tie.Need-slice-aggregate-word-5
+slice-aggregate-word-5 c = search needs
+
+word-requires-5 : tie.Need-word-requires-5
+word-requires-5 c κs = search needs
+
+enum-told-6 : tie.Need-enum-told-6
+enum-told-6 c = search needs
+
+slice-aggregate-word-6 : tie.Need-slice-aggregate-word-6
+slice-aggregate-word-6 c = search needs
+
+word-requires-6 : tie.Need-word-requires-6
+word-requires-6 c κs = search needs
+
+enum-told-7 : tie.Need-enum-told-7
+enum-told-7 c = search needs
+
+slice-aggregate-word-7 : tie.Need-slice-aggregate-word-7
+slice-aggregate-word-7 c = search needs
+
+word-requires-7 : tie.Need-word-requires-7
+word-requires-7 c κs = search needs
+
+enum-told-8 : tie.Need-enum-told-8
+enum-told-8 c = search needs
+
+slice-aggregate-word-8 : tie.Need-slice-aggregate-word-8
+slice-aggregate-word-8 c = search needs
+
+word-requires-8 : tie.Need-word-requires-8
+word-requires-8 c κs = search needs
+
+enum-told-9 : tie.Need-enum-told-9
+enum-told-9 c = search needs
+
+slice-aggregate-word-9 : tie.Need-slice-aggregate-word-9
+slice-aggregate-word-9 c = search needs
+
+word-requires-9 : tie.Need-word-requires-9
+word-requires-9 c κs = search needs
+
+enum-told-10 : tie.Need-enum-told-10
+enum-told-10 c = search needs
+
+slice-aggregate-word-10 : tie.Need-slice-aggregate-word-10
+slice-aggregate-word-10 c = search needs
+
+word-requires-10 : tie.Need-word-requires-10
+word-requires-10 c κs = search needs
+
+enum-told-11 : tie.Need-enum-told-11
+enum-told-11 c = search needs
+
+slice-aggregate-word-11 : tie.Need-slice-aggregate-word-11
+slice-aggregate-word-11 c = search needs
+
+word-requires-11 : tie.Need-word-requires-11
+word-requires-11 c κs = search needs
+
+enum-told-12 : tie.Need-enum-told-12
+enum-told-12 c = search needs
+
+slice-aggregate-word-12 : tie.Need-slice-aggregate-word-12
+slice-aggregate-word-12 c = search needs
+
+word-requires-12 : tie.Need-word-requires-12
+word-requires-12 c κs = search needs
+
+enum-told-13 : tie.Need-enum-told-13
+enum-told-13 c = search needs
+
+slice-aggregate-word-13 : tie.Need-slice-aggregate-word-13
+slice-aggregate-word-13 c = search needs
+
+word-requires-13 : tie.Need-word-requires-13
+word-requires-13 c κs = search needs
+
+enum-told-14 : tie.Need-enum-told-14
+enum-told-14 c = search needs
+
+slice-aggregate-word-14 : tie.Need-slice-aggregate-word-14
+slice-aggregate-word-14 c = search needs
+
+word-requires-14 : tie.Need-word-requires-14
+word-requires-14 c κs = search needs
+
+enum-told-15 : tie.Need-enum-told-15
+enum-told-15 c = search needs
+
+slice-aggregate-word-15 : tie.Need-slice-aggregate-word-15
+slice-aggregate-word-15 c = search needs
+
+word-requires-15 : tie.Need-word-requires-15
+word-requires-15 c κs = search needs
+
+same-length : tie.Need-same-length
+same-length c = search needs
+
+returns : tie.Need-returns
+returns c = rw (c .before .before .before .before .before .enum-told .given .1) (c .before .before .word .ensures)
+
+same-length-2 : tie.Need-same-length-2
+same-length-2 c = search needs
+
+returns-2 : tie.Need-returns-2
+returns-2 c = rw (c .before .before .before .before .before .enum-told2 .given .1) (c .before .before .word2 .ensures)
+
+same-length-3 : tie.Need-same-length-3
+same-length-3 c = search needs
+
+returns-3 : tie.Need-returns-3
+returns-3 c = rw (c .before .before .before .before .before .enum-told3 .given .1) (c .before .before .word3 .ensures)
+
+same-length-4 : tie.Need-same-length-4
+same-length-4 c = search needs
+
+returns-4 : tie.Need-returns-4
+returns-4 c = rw (c .before .before .before .before .before .enum-told4 .given .1) (c .before .before .word4 .ensures)
+
+same-length-5 : tie.Need-same-length-5
+same-length-5 c = search needs
+
+returns-5 : tie.Need-returns-5
+returns-5 c = rw (c .before .before .before .before .before .enum-told5 .given .1) (c .before .before .word5 .ensures)
+
+same-length-6 : tie.Need-same-length-6
+same-length-6 c = search needs
+
+returns-6 : tie.Need-returns-6
+returns-6 c = rw (c .before .before .before .before .before .enum-told6 .given .1) (c .before .before .word6 .ensures)
+
+same-length-7 : tie.Need-same-length-7
+same-length-7 c = search needs
+
+returns-7 : tie.Need-returns-7
+returns-7 c = rw (c .before .before .before .before .before .enum-told7 .given .1) (c .before .before .word7 .ensures)
+
+same-length-8 : tie.Need-same-length-8
+same-length-8 c = search needs
+
+returns-8 : tie.Need-returns-8
+returns-8 c = rw (c .before .before .before .before .before .enum-told8 .given .1) (c .before .before .word8 .ensures)
+
+same-length-9 : tie.Need-same-length-9
+same-length-9 c = search needs
+
+returns-9 : tie.Need-returns-9
+returns-9 c = rw (c .before .before .before .before .before .enum-told9 .given .1) (c .before .before .word9 .ensures)
+
+same-length-10 : tie.Need-same-length-10
+same-length-10 c = search needs
+
+returns-10 : tie.Need-returns-10
+returns-10 c = rw (c .before .before .before .before .before .enum-told10 .given .1) (c .before .before .word10 .ensures)
+
+same-length-11 : tie.Need-same-length-11
+same-length-11 c = search needs
+
+returns-11 : tie.Need-returns-11
+returns-11 c = rw (c .before .before .before .before .before .enum-told11 .given .1) (c .before .before .word11 .ensures)
+
+same-length-12 : tie.Need-same-length-12
+same-length-12 c = search needs
+
+returns-12 : tie.Need-returns-12
+returns-12 c = rw (c .before .before .before .before .before .enum-told12 .given .1) (c .before .before .word12 .ensures)
+
+same-length-13 : tie.Need-same-length-13
+same-length-13 c = search needs
+
+returns-13 : tie.Need-returns-13
+returns-13 c = rw (c .before .before .before .before .before .enum-told13 .given .1) (c .before .before .word13 .ensures)
+
+same-length-14 : tie.Need-same-length-14
+same-length-14 c = search needs
+
+returns-14 : tie.Need-returns-14
+returns-14 c = rw (c .before .before .before .before .before .enum-told14 .given .1) (c .before .before .word14 .ensures)
+
+same-length-15 : tie.Need-same-length-15
+same-length-15 c = search needs
+
+returns-15 : tie.Need-returns-15
+returns-15 c = rw (c .before .before .before .before .before .enum-told15 .given .1) (c .before .before .word15 .ensures)
+
+pub rule-spec : {M : Type 1} → statement M
+rule-spec =
+    tie.close
+    (tie.spec
+    enum-told
+    slice-aggregate-word
+    word-requires
+    enum-told-2
+    slice-aggregate-word-2
+    word-requires-2
+    enum-told-3
+    slice-aggregate-word-3
+    word-requires-3
+    enum-told-4
+    slice-aggregate-word-4
+    word-requires-4
+    enum-told-5
+    slice-aggregate-word-5
+    word-requires-5
+    enum-told-6
+    slice-aggregate-word-6
+    word-requires-6
+    enum-told-7
+    slice-aggregate-word-7
+    word-requires-7
+    enum-told-8
+    slice-aggregate-word-8
+    word-requires-8
+    enum-told-9
+    slice-aggregate-word-9
+    word-requires-9
+    enum-told-10
+    slice-aggregate-word-10
+    word-requires-10
+    enum-told-11
+    slice-aggregate-word-11
+    word-requires-11
+    enum-told-12
+    slice-aggregate-word-12
+    word-requires-12
+    enum-told-13
+    slice-aggregate-word-13
+    word-requires-13
+    enum-told-14
+    slice-aggregate-word-14
+    word-requires-14
+    enum-told-15
+    slice-aggregate-word-15
+    word-requires-15
+    same-length
+    returns
+    same-length-2
+    returns-2
+    same-length-3
+    returns-3
+    same-length-4
+    returns-4
+    same-length-5
+    returns-5
+    same-length-6
+    returns-6
+    same-length-7
+    returns-7
+    same-length-8
+    returns-8
+    same-length-9
+    returns-9
+    same-length-10
+    returns-10
+    same-length-11
+    returns-11
+    same-length-12
+    returns-12
+    same-length-13
+    returns-13
+    same-length-14
+    returns-14
+    same-length-15
+    returns-15)

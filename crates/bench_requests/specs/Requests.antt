@@ -1,0 +1,53 @@
+-- docs/BENCH.md, "Datagrams": the answers of `request`, case by case.
+use Prim.Native.Nat.{ℕ}
+use mathlib.Core.List.{List, [], _∷_, _++_}
+use Rattle.text.specs.Text.{hexOf, decimalOf}
+use Rattle.bench_say.specs.Said.{text, runOf}
+use Rattle.target.specs.declared.Target.{Target}
+use Rattle.target.specs.declared.Target.the-variants.{Gear as lit·Gear, Group as lit·Group, Broadcast, Nothing as lit·Nothing}
+use Rattle.meaning.specs.declared.Meaning.{Meaning}
+use Rattle.meaning.specs.declared.Meaning.the-variants.{Nothing, Group, Emit, Timers, GroupScene, Channel, Filter, Query, Gear, Inhibit, Scene, Level, Lit, Target as asked}
+use Rattle.request.specs.declared.Contents.{Contents}
+use Rattle.request.specs.declared.Contents.the-variants.{Basic, Unicast}
+use Rattle.request.specs.declared.Request.{Request}
+use Rattle.request.specs.declared.Reading.{Reading}
+use Rattle.request.specs.declared.Reading.the-variants.{Accepted, Refused}
+
+-- LIGHTS
+abbrev pub lightsTexts : Target → List (List ℕ)
+lightsTexts (lit·Gear n) = text " gear " ∷ decimalOf n ∷ []
+lightsTexts (lit·Group g) = text " group " ∷ decimalOf (g .0) ∷ []
+lightsTexts Broadcast = text " broadcast" ∷ []
+lightsTexts lit·Nothing = text " no target" ∷ []
+
+-- "A meaning is one of these"
+abbrev pub meaningTexts : Meaning → List (List ℕ)
+meaningTexts Nothing = text " nothing" ∷ []
+meaningTexts (Group g) = text " group " ∷ decimalOf (g .0) ∷ []
+meaningTexts (Emit a) = text " emit " ∷ decimalOf a ∷ []
+meaningTexts (Timers d i) = text " device " ∷ decimalOf (d .0) ∷ text " instance " ∷ decimalOf i ∷ []
+meaningTexts (GroupScene g s) = text " group " ∷ decimalOf (g .0) ∷ text " scene " ∷ decimalOf s ∷ []
+meaningTexts (Channel u n) = text " universe " ∷ decimalOf u ∷ text " channel " ∷ decimalOf n ∷ []
+meaningTexts (Filter a i m) = text " address " ∷ decimalOf a ∷ text " instance " ∷ decimalOf i ∷ text " mask " ∷ decimalOf m ∷ []
+meaningTexts (Query a s i) = text " address " ∷ decimalOf a ∷ text " start " ∷ decimalOf s ∷ text " instance " ∷ decimalOf i ∷ []
+meaningTexts (Gear a) = text " gear " ∷ decimalOf a ∷ []
+meaningTexts (Inhibit l n) = lightsTexts l ++ (text " seconds " ∷ decimalOf n ∷ [])
+meaningTexts (Scene l s) = lightsTexts l ++ (text " scene " ∷ decimalOf s ∷ [])
+meaningTexts (Level l n) = lightsTexts l ++ (text " level " ∷ decimalOf n ∷ [])
+meaningTexts (Lit l) = lightsTexts l
+meaningTexts (asked l) = lightsTexts l
+
+-- "`arguments AA BB CC DD` and the meaning; of request 40, `port N address N N N N`"
+abbrev pub contentsTexts : Contents → List (List ℕ)
+contentsTexts (Basic a m) = (text " arguments" ∷ runOf (a .a ∷ a .b ∷ a .c ∷ a .d ∷ [])) ++ meaningTexts m
+contentsTexts (Unicast port d) =
+    text " port " ∷ decimalOf port ∷ text " address " ∷ decimalOf (d .0)
+    ∷ text " " ∷ decimalOf (d .1) ∷ text " " ∷ decimalOf (d .2) ∷ text " " ∷ decimalOf (d .3) ∷ []
+
+-- "`sequence N command CC`", and the contents
+abbrev pub requestTexts : Request → List (List ℕ)
+requestTexts q = text "0 sequence " ∷ decimalOf (q .sequence) ∷ text " command " ∷ hexOf (q .command) ∷ contentsTexts (q .contents)
+
+abbrev pub readingTexts : Reading → List (List ℕ)
+readingTexts (Accepted q) = requestTexts q
+readingTexts (Refused k) = decimalOf k ∷ []

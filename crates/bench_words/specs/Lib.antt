@@ -1,0 +1,6 @@
+-- what the contracts cite
+pub mod Words
+pub mod Groups
+-- what only serves proofs
+pub mod Places
+pub mod Turns

@@ -1,0 +1,137 @@
+-- What the table says of every command: the numbers lose nothing, a known command is a byte, and only 40 is dynamic.
+use Prim.Native.Nat.{ℕ, zero, suc, _+_, _≤_, _<_}
+use mathlib.Core.Path.{_≡_, refl, sym, ap, _∙_}
+use mathlib.Core.Bool.{Bool, true, false, _&&_}
+use mathlib.Core.List.{List, [], _∷_}
+use lib.Dec.{leb, ltb, eqb}
+use lib.ListN.{getD}
+use borrow.Author.Tests.{leb-true, ltb-true, eqb-true, eq-eqb}
+use native.Mathlib.Omega.{arith}
+use Rattle.refusal.specs.Test.{pick, clash, both-left, both-right}
+use Rattle.command.specs.declared.Rule.{Rule}
+use Rattle.command.specs.declared.Rule.the-variants.{Group, Emit, Bare, Timers, GroupScene, Channel, Filter, Query, Gear, Inhibit, Scene, Level, Lights, Address, Status}
+use Rattle.command.specs.declared.Shape.{Shape}
+use Rattle.command.specs.declared.Shape.the-variants.{Unknown, Basic, Unicast}
+use Rattle.command.specs.Command.{Numbers, shape-rule, Row, row, find, rows, numbersIn, shapeNo, ruleNo, numbersOf, shapes, shapeBy, shapeOf, hasFrame, isKnown, mayAsk, mayWrite}
+
+-- a shape is told by the number of its rule
+pub rule-back : (x : Shape) → getD shapes (ruleNo x) Unknown ≡ x
+rule-back Unknown = refl
+rule-back (Basic Group) = refl
+rule-back (Basic Emit) = refl
+rule-back (Basic Bare) = refl
+rule-back (Basic Timers) = refl
+rule-back (Basic GroupScene) = refl
+rule-back (Basic Channel) = refl
+rule-back (Basic Filter) = refl
+rule-back (Basic Query) = refl
+rule-back (Basic Gear) = refl
+rule-back (Basic Inhibit) = refl
+rule-back (Basic Scene) = refl
+rule-back (Basic Level) = refl
+rule-back (Basic Lights) = refl
+rule-back (Basic Address) = refl
+rule-back (Basic Status) = refl
+rule-back Unicast = refl
+
+pub rule-one : (x y : Shape) → ruleNo x ≡ ruleNo y → x ≡ y
+rule-one x y e = sym (rule-back x) ∙ ap (λ (n : ℕ). getD shapes n Unknown) e ∙ rule-back y
+
+-- so its numbers leave no choice
+pub numbers-one : (x y : Shape) → numbersOf x ≡ numbersOf y → x ≡ y
+numbers-one x y e = sym (rule-back x) ∙ ap shapeBy e ∙ rule-back y
+
+pub told : (x y : Shape) → shapeNo x ≡ shapeNo y → ruleNo x ≡ ruleNo y → x ≡ y
+told x y s r = rule-one x y r
+
+-- a shape with the numbers of a command is the command's
+pub shape-told : (x : Shape) (c : ℕ) → numbersOf x ≡ numbersIn c → x ≡ shapeOf c
+unfolding shapeOf numbersIn
+shape-told x c e = sym (rule-back x) ∙ ap shapeBy e
+
+-- what a test of the lines shows of each command: P of what no line has, and of what a line has that passes the test
+module _ (P : ℕ → Numbers → Type 0) (none : (c : ℕ) → P c (shape-rule 0 0)) (test : ℕ → ℕ → ℕ → ℕ → Bool)
+    (passed : (lo hi s r : ℕ) → test lo hi s r ≡ true → (c : ℕ) → lo ≤ c → c ≤ hi → P c (shape-rule s r)) where
+  abbrev all : List Row → Bool
+  all [] = true
+  all (row lo hi s r ∷ rows) = test lo hi s r && all rows
+
+  found : (c : ℕ) (rows : List Row) → all rows ≡ true → P c (find c rows)
+  found c [] t = none c
+  found c (row lo hi s r ∷ rows) t = go (leb lo c) refl (leb c hi) refl (found c rows (both-right (test lo hi s r) (all rows) t))
+    where
+      go : (x : Bool) → leb lo c ≡ x → (y : Bool) → leb c hi ≡ y → P c (find c rows)
+          → P c (pick x (pick y (shape-rule s r) (find c rows)) (find c rows))
+      go true l true h other = passed lo hi s r (both-left (test lo hi s r) (all rows) t) c (leb-true lo c l) (leb-true c hi h)
+      go true l false h other = other
+      go false l y h other = other
+
+-- the numbers of a command's shape are those that the table has
+abbrev isNumbers : ℕ → ℕ → Bool
+isNumbers s r = let x = getD shapes r Unknown in eqb (shapeNo x) s && eqb (ruleNo x) r
+
+pub shape-numbers : (c : ℕ) → numbersOf (shapeOf c) ≡ numbersIn c
+unfolding shapeOf numbersIn
+shape-numbers c = found (λ c n. numbersOf (shapeBy n) ≡ n) (λ c. refl) (λ lo hi s r. isNumbers s r) same c rows refl
+  where
+    same : (lo hi s r : ℕ) → isNumbers s r ≡ true → (c : ℕ) → lo ≤ c → c ≤ hi → numbersOf (shapeBy (shape-rule s r)) ≡ shape-rule s r
+    same lo hi s r t c l h =
+        let x : Shape = getD shapes r Unknown in
+        let a : shapeNo x ≡ s = eqb-true (shapeNo x) s (both-left (eqb (shapeNo x) s) (eqb (ruleNo x) r) t) in
+        let b : ruleNo x ≡ r = eqb-true (ruleNo x) r (both-right (eqb (shapeNo x) s) (eqb (ruleNo x) r) t) in
+        rw (a, b)
+
+-- "With 40 these are 32 commands; each other number is unknown."
+unfoldable pub knownBelow : ℕ → ℕ
+knownBelow zero = 0
+knownBelow (suc n) = pick (isKnown n) 1 0 + knownBelow n
+
+pub known-count : knownBelow 256 ≡ 32
+unfolding shapeOf knownBelow
+known-count = refl
+
+-- a known command is a byte
+pub known-byte : (c : ℕ) → isKnown c ≡ true → c < 256
+unfolding shapeOf numbersIn
+known-byte c =
+    found (λ c n. hasFrame (shapeBy n) ≡ true → c < 256) (λ c e. clash (cc)) (λ lo hi s r. ltb hi 256)
+    (λ lo hi s r t c l h e. omega (arith, ltb-true hi 256 t)) c rows refl
+
+-- the only dynamic request is 40
+abbrev isOnly : ℕ → ℕ → ℕ → Bool
+isOnly lo hi r = pick (eqb (ruleNo (getD shapes r Unknown)) 16) (eqb lo 0x40 && eqb hi 0x40) true
+
+pub unicast-only : (c : ℕ) → shapeOf c ≡ Unicast → c ≡ 0x40
+unfolding shapeOf numbersIn
+unicast-only c e =
+    found (λ c n. ruleNo (shapeBy n) ≡ 16 → c ≡ 0x40) (λ c e. clash (cc)) (λ lo hi s r. isOnly lo hi r) only c rows refl (ap ruleNo e)
+  where
+    only : (lo hi s r : ℕ) → isOnly lo hi r ≡ true → (c : ℕ) → lo ≤ c → c ≤ hi → ruleNo (getD shapes r Unknown) ≡ 16 → c ≡ 0x40
+    only lo hi s r t c l h e =
+        let u : eqb lo 0x40 && eqb hi 0x40 ≡ true = rw (eq-eqb (ruleNo (getD shapes r Unknown)) 16 e) at t in
+        omega (arith, eqb-true lo 0x40 (both-left (eqb lo 0x40) (eqb hi 0x40) u), eqb-true hi 0x40 (both-right (eqb lo 0x40) (eqb hi 0x40) u))
+
+-- what may be asked or written is known
+pub may-ask-known : (c : ℕ) → mayAsk c ≡ true → isKnown c ≡ true
+unfolding mayAsk
+may-ask-known c e = e
+
+pub may-write-known : (c : ℕ) → mayWrite c ≡ true → isKnown c ≡ true
+unfolding mayWrite
+may-write-known c e = e
+
+-- a command with a rule is known; as yet each known one may be asked and written
+pub basic-known : (c : ℕ) (rule : Rule) → shapeOf c ≡ Basic rule → isKnown c ≡ true
+basic-known c rule e = rw e
+
+pub unicast-known : isKnown 0x40 ≡ true
+unfolding shapeOf numbersIn
+unicast-known = refl
+
+pub known-may-ask : (c : ℕ) → isKnown c ≡ true → mayAsk c ≡ true
+unfolding mayAsk
+known-may-ask c e = e
+
+pub known-may-write : (c : ℕ) → isKnown c ≡ true → mayWrite c ≡ true
+unfolding mayWrite
+known-may-write c e = e
