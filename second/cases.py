@@ -718,6 +718,44 @@ def settling():
             yield call("settle_" + line, some_stream(line, chance))
 
 
+def items_at():
+    """What stands at a position, where more may come and where nothing does. A flag of 00 is no, every other byte is yes."""
+    chance = Chance(7)
+    for line in ["request", "reply"]:
+        for flag in [0, 1, 0x80, 0xFF]:
+            yield call("item_" + line, [flag], b"")
+        for flag in [0, 1]:
+            for lead in range(256):
+                yield call("item_" + line, [flag], [lead])
+                yield call("item_" + line, [flag], [0x04, 0xA0, lead])
+                yield call("item_" + line, [flag], [0x04, 0x00, 0x40, lead])
+            for _ in range(60):
+                stream = some_stream(line, chance)[:16]
+                for size in range(len(stream) + 1):
+                    yield call("item_" + line, [flag], stream[:size])
+
+
+def relays():
+    """Datagrams read and written again: good, damaged and cut, into buffers of every size about theirs."""
+    for family, frame in SHORT_FRAMES + LONG_FRAMES:
+        for size in [0, 1, len(frame) - 1, len(frame), len(frame) + 1, len(frame) + 5]:
+            yield call("relay_" + family, frame, pattern(size))
+        for datagram in list(byte_changes(frame, [0, 1, 2, 3, len(frame) - 1])) + list(size_changes(frame))[-12:]:
+            yield call("relay_" + family, datagram, pattern(len(frame) + 1))
+            yield call("relay_" + family, datagram, pattern(3))
+    for printed in printed_frames():
+        for frame in [printed, resummed(printed)]:
+            for family in ["request", "reply", "event"]:
+                yield call("relay_" + family, frame, pattern(len(frame)))
+    for family, frame, wrong_bytes, _ in FAULTS:
+        for wrong in subsets(wrong_bytes):
+            datagram = frame
+            for place, value in wrong:
+                datagram = replaced(datagram, place, value)
+            yield call("relay_" + family, resummed(datagram), pattern(len(frame) - 1))
+            yield call("relay_" + family, resummed(datagram), pattern(len(frame) + 2))
+
+
 # Lines that are no call
 
 def filled(line, size):
@@ -797,6 +835,8 @@ KINDS = [
     ("streams", streams),
     ("readers handed in", handed_in),
     ("settling", settling),
+    ("items at a position", items_at),
+    ("relays", relays),
     ("lines that are no call", no_calls),
 ]
 

@@ -612,9 +612,36 @@ def settle_fields(line, run):
     return ["item", number, "count", count, "by", taken]
 
 
+# "Fewer bytes than a rule needs: wait. At close: item 1, one byte."
+def item_at_fields(line, closed, run):
+    """The item at a position, by number and count, where these bytes are all that is there so far, or all that comes."""
+    item = settle(line, run) or ((1, 1) if closed and run else None)
+    return ["item", item[0], "count", item[1]] if item else ["nothing"]
+
+
 def item_fields(item):
     number, run = item
     return ["item", number, "count", len(run), "bytes", run]
+
+
+# "Reading a written frame gives its fields back; writing a frame that was read gives its bytes back": a relay reads a
+# datagram and writes what it read.
+
+def relay_request(datagram, buffer):
+    request = read_request(datagram)
+    if request.command == UNICAST:
+        return write_unicast(request.sequence, request.arguments[1:], buffer)
+    return write_basic(request.sequence, request.command, request.arguments, buffer)
+
+
+def relay_reply(datagram, buffer):
+    reply = read_reply(datagram)
+    return write_reply(reply.type, reply.sequence, reply.data, buffer)
+
+
+def relay_event(datagram, buffer):
+    event = read_event(datagram)
+    return write_event(event.mac, event.target, event.type, event.data, buffer)
 
 
 # The calls, by name: the sizes of their groups, and the answer
@@ -647,16 +674,19 @@ DATAGRAM_CALLS = {
                     lent(lambda head, buffer: write_basic(head[0], head[1], head[2:], buffer))),
     "write_unicast": ([exactly(7), SOME],
                       lent(lambda head, buffer: write_unicast(head[0], head[1:], buffer))),
+    "relay_request": ([SOME, SOME], lent(relay_request)),
     "reply": ([SOME], plain(reply_fields)),
     "reply_data": ([SOME], plain(data_fields(read_reply))),
     "error_code": ([SOME], plain(error_code_fields)),
     "write_reply": ([exactly(2), SOME, SOME],
                     lent(lambda head, data, buffer: write_reply(head[0], head[1], data, buffer))),
+    "relay_reply": ([SOME, SOME], lent(relay_reply)),
     "event": ([SOME], plain(event_fields)),
     "event_data": ([SOME], plain(data_fields(read_event))),
     "write_event": ([exactly(11), SOME, SOME],
                     lent(lambda head, data, buffer:
                          write_event(head[:6], high_first(head[6:10]), head[10], data, buffer))),
+    "relay_event": ([SOME, SOME], lent(relay_event)),
 }
 
 PART_CALLS = {
@@ -747,6 +777,7 @@ class Bench:
             "close_" + line: ([exactly(0)], plain(lambda none: close())),
             "show_" + line: ([exactly(0)], plain(lambda none: show())),
             "settle_" + line: ([SOME], plain(lambda run: settle_fields(line, run))),
+            "item_" + line: ([exactly(1), SOME], plain(lambda flag, run: item_at_fields(line, flag[0] != 0, run))),
         }
 
     def answer(self, line):

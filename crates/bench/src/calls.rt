@@ -52,7 +52,7 @@ pub fn said(state: State, at: usize) -> Turn {
     Turn { state, at }
 }
 
-// What writes into a lent buffer: head is the first group of the call, data its second where it has three.
+// What writes into a lent buffer: head is the first group of the call (the datagram of a relay), data its second where it has three.
 fn write(n: usize, head: &[u8], data: &[u8], buffer: &mut [u8]) -> Wrote {
     let a = bench_words::byte_at(head, 0);
     let b = bench_words::byte_at(head, 1);
@@ -81,6 +81,9 @@ fn write(n: usize, head: &[u8], data: &[u8], buffer: &mut [u8]) -> Wrote {
             let kind = bench_words::byte_at(head, 10);
             event::write(Mac(a, b, c, d, e, f), target, kind, data, buffer)
         }
+        0x1A => request::relay(head, buffer),
+        0x1B => reply::relay(head, buffer),
+        0x1C => event::relay(head, buffer),
         _ => frame::write(head, data, buffer),
     }
 }
@@ -247,10 +250,17 @@ fn line(n: usize, l: Line, h: Held, s: &[u8], t: &[u8], out: &mut [u8], at: usiz
             held: h,
             at: bench_lines::show(out, at, h),
         },
-        _ => LineTurn {
+        5 => LineTurn {
             held: h,
             at: bench_lines::step(out, at, line::settled(l, s)),
         },
+        _ => {
+            let closed = bench_words::byte_at(s, 0) != 0;
+            LineTurn {
+                held: h,
+                at: bench_lines::item(out, at, line::item_at(l, closed, t)),
+            }
+        }
     }
 }
 
@@ -265,7 +275,7 @@ fn made(c: Call, state: State, bytes: &[u8], buffer: &mut [u8], out: &mut [u8], 
     let q = state.request;
     let r = state.reply;
     match n {
-        0x11 | 0x12 => said(state, wrote(n, s, b"", t, buffer, out, at)),
+        0x11 | 0x12 | 0x1A | 0x1B | 0x1C => said(state, wrote(n, s, b"", t, buffer, out, at)),
         0x16 | 0x19 | 0x21 => said(state, wrote(n, s, t, u, buffer, out, at)),
         0x10..=0x1F => said(state, datagram(n, s, out, at)),
         0x20..=0x2F => said(state, part(n, s, out, at)),

@@ -25,6 +25,9 @@ table =
     ∷ row "event" 0x17_1_000_FFF_FFF
     ∷ row "event_data" 0x18_1_000_FFF_FFF
     ∷ row "write_event" 0x19_3_00B_00B_FFF
+    ∷ row "relay_request" 0x1A_2_000_FFF_FFF
+    ∷ row "relay_reply" 0x1B_2_000_FFF_FFF
+    ∷ row "relay_event" 0x1C_2_000_FFF_FFF
     -- Parts of datagrams
     ∷ row "sum" 0x20_1_000_FFF_FFF
     ∷ row "frame" 0x21_3_000_FFF_FFF
@@ -63,12 +66,14 @@ table =
     ∷ row "close_request" 0x53_1_000_000_FFF
     ∷ row "show_request" 0x54_1_000_000_FFF
     ∷ row "settle_request" 0x55_1_000_FFF_FFF
+    ∷ row "item_request" 0x56_2_001_001_FFF
     ∷ row "fresh_reply" 0x60_1_000_000_FFF
     ∷ row "hold_reply" 0x61_2_008_008_043
     ∷ row "feed_reply" 0x62_1_000_FFF_FFF
     ∷ row "close_reply" 0x63_1_000_000_FFF
     ∷ row "show_reply" 0x64_1_000_000_FFF
     ∷ row "settle_reply" 0x65_1_000_FFF_FFF
+    ∷ row "item_reply" 0x66_2_001_001_FFF
     ∷ []
 
 -- whether two runs are the same

@@ -27,7 +27,7 @@ pub enum Called {
 // A row for each call: its number, how many groups it takes, how many bytes the first has at least and at most, and how
 // many the second has at most, as digits of one hexadecimal number. FFF is more than a line can name. A third group may
 // have any. The first digit of a call's number is its family; new calls stand behind those of theirs.
-const ROWS: [usize; 50] = [
+const ROWS: [usize; 55] = [
     // Datagrams
     0x10_1_000_FFF_FFF, // request
     0x11_2_006_006_FFF, // write_basic
@@ -39,6 +39,9 @@ const ROWS: [usize; 50] = [
     0x17_1_000_FFF_FFF, // event
     0x18_1_000_FFF_FFF, // event_data
     0x19_3_00B_00B_FFF, // write_event
+    0x1A_2_000_FFF_FFF, // relay_request
+    0x1B_2_000_FFF_FFF, // relay_reply
+    0x1C_2_000_FFF_FFF, // relay_event
     // Parts of datagrams
     0x20_1_000_FFF_FFF, // sum
     0x21_3_000_FFF_FFF, // frame
@@ -77,12 +80,14 @@ const ROWS: [usize; 50] = [
     0x53_1_000_000_FFF, // close_request
     0x54_1_000_000_FFF, // show_request
     0x55_1_000_FFF_FFF, // settle_request
+    0x56_2_001_001_FFF, // item_request
     0x60_1_000_000_FFF, // fresh_reply
     0x61_2_008_008_043, // hold_reply
     0x62_1_000_FFF_FFF, // feed_reply
     0x63_1_000_000_FFF, // close_reply
     0x64_1_000_000_FFF, // show_reply
     0x65_1_000_FFF_FFF, // settle_reply
+    0x66_2_001_001_FFF, // item_reply
 ];
 
 // Whether two runs hold the same bytes.
@@ -125,14 +130,15 @@ fn row_of(name: &[u8]) -> usize
 {
     let k = place(
         b"request write_basic write_unicast reply reply_data error_code write_reply event event_data \
-write_event sum frame known shape fits error_name event_type group_target lights status device \
-device_number high_first mask count_types lowest_type scenes gear count_gear lowest_gear types \
-filters filter book_fresh book_set ask answer book_show fresh_request hold_request feed_request \
-close_request show_request settle_request fresh_reply hold_reply feed_reply close_reply show_reply \
-settle_reply",
+write_event relay_request relay_reply relay_event sum frame known shape fits error_name \
+event_type group_target lights status device device_number high_first mask count_types \
+lowest_type scenes gear count_gear lowest_gear types filters filter book_fresh book_set ask \
+answer book_show fresh_request hold_request feed_request close_request show_request \
+settle_request item_request fresh_reply hold_reply feed_reply close_reply show_reply \
+settle_reply item_reply",
         name,
     );
-    if k < 50 { ROWS[k] } else { 0 }
+    if k < 55 { ROWS[k] } else { 0 }
 }
 
 // Whether the groups are those that the row asks for.

@@ -10,6 +10,8 @@ use Rattle.reader.specs.declared.Held.{Held}
 use Rattle.reader.specs.declared.Got.{Got}
 use Rattle.reader.specs.declared.Got.the-variants.{Nothing, Item as got·Item}
 use Rattle.reader.specs.declared.Given.{Given}
+use Rattle.line.specs.declared.At.{At}
+use Rattle.line.specs.declared.At.the-variants.{Nothing as at·Nothing, Item as at·Item}
 use Rattle.stream.specs.declared.Step.{Step}
 use Rattle.stream.specs.declared.Step.the-variants.{More, Item}
 
@@ -41,3 +43,8 @@ heldTexts h = text "0 held " ∷ decimalOf (h .len) ∷ text " bytes" ∷ runOf 
 abbrev pub stepTexts : Step → List (List ℕ)
 stepTexts More = text "0 more" ∷ []
 stepTexts (Item k m d) = text "0 item " ∷ decimalOf k ∷ text " count " ∷ decimalOf m ∷ text " by " ∷ decimalOf d ∷ []
+
+-- "`item N count N`, or `nothing`"
+abbrev pub itemTexts : At → List (List ℕ)
+itemTexts at·Nothing = text "0 nothing" ∷ []
+itemTexts (at·Item k m) = text "0 item " ∷ decimalOf k ∷ text " count " ∷ decimalOf m ∷ []

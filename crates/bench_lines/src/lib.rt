@@ -2,7 +2,8 @@
 // It leans on crates bench_words and bench_say, and on crates reader and stream for what is said.
 ghost use mathlib.Core.Path.{_≡_};
 ghost use Rattle.bench_say.specs.Said.{PutsAll};
-ghost use Rattle.bench_lines.specs.Lines.{handedReader, givenTexts, fedTexts, closedTexts, heldTexts, stepTexts};
+ghost use Rattle.bench_lines.specs.Lines.{handedReader, givenTexts, fedTexts, closedTexts, heldTexts, stepTexts, itemTexts};
+use line::At;
 use reader::Given;
 use reader::Got;
 use reader::Held;
@@ -75,6 +76,19 @@ pub fn step(out: &mut [u8], at: usize, s: Step) -> usize
             let e = bench_say::small(out, at, b"0 item ", k);
             let g = bench_say::size(out, e, b" count ", m);
             bench_say::size(out, g, b" by ", d)
+        }
+    }
+}
+
+// What stands at a position.
+pub fn item(out: &mut [u8], at: usize, a: At) -> usize
+    ensures { λ r. ⌜ PutsAll (itemTexts a) (now (out .entry)) at r (now (out .exit)) ⌝ }
+{
+    match a {
+        At::Nothing => bench_say::word(out, at, b"0 nothing"),
+        At::Item(k, m) => {
+            let e = bench_say::small(out, at, b"0 item ", k);
+            bench_say::size(out, e, b" count ", m)
         }
     }
 }
