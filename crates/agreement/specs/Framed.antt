@@ -10,7 +10,7 @@ use borrow.Author.Tests.{leb-true, eqb-true, le-leb, eq-eqb}
 use native.Mathlib.Omega.{arith}
 use Rattle.refusal.specs.Test.{pick, clash}
 use Rattle.refusal.specs.Answer.{Answer, refused, full, demand}
-use Rattle.lead.specs.Lead.{isRequest, isReply}
+use Rattle.lead.specs.Lead.{isRequest, isReply, replyLeast}
 use Rattle.sum.specs.Sum.{sumOf}
 use Rattle.frame.specs.Frame.{byte}
 use Rattle.command.specs.declared.Shape.{Shape}
@@ -24,7 +24,7 @@ use Rattle.stream.specs.Stream.{Settled}
 use Rattle.line.specs.declared.Line.{Line}
 use Rattle.line.specs.declared.Line.the-variants.{Request, Reply}
 use Rattle.line.specs.declared.Extent.the-variants.{Wait, Bad, Frame}
-use Rattle.line.specs.Line.{replyFrame, replyLength, lengthExtent, requestExtent, extentOf, inTable, leastOf}
+use Rattle.line.specs.Line.{replyLength, lengthExtent, requestExtent, extentOf, inTable, leastOf}
 use Rattle.line.specs.Cases.{Leads}
 use Rattle.line.specs.Extents.{frame-least}
 use Rattle.agreement.specs.Verdict.{Verdict, accepted, refusedWith, verdict, datagram, frameVerdict, isFramed}
@@ -57,7 +57,7 @@ stated-frame (tested p test n) f y e = go (leb (suc p) (length f)) (test (byte p
 reply-framed : (f : List ℕ) → Leads Reply f (Frame (length f)) → datagram Reply f ≡ frameVerdict (eqb (sumOf f) 0) true
 unfolding readReply
 reply-framed f w =
-    let l = le-leb replyFrame (length f) (frame-least Reply f (extentOf Reply f) (length f) refl (w .tells)) in
+    let l = le-leb replyLeast (length f) (frame-least Reply f (extentOf Reply f) (length f) refl (w .tells)) in
     rw (l, w .lead) (ap verdict (stated-frame replyLength f _ (w .tells)) ∙ demands-sum (eqb (sumOf f) 0) _)
 
 request-framed : (f : List ℕ) → Leads Request f (Frame (length f)) → datagram Request f ≡ frameVerdict (eqb (sumOf f) 0) (inTable Request f)
@@ -121,10 +121,10 @@ stated-extent (tested p test n) f y r =
 reply-leads : (f : List ℕ) → Judged (readReply f) → Leads Reply f (Frame (length f))
 unfolding readReply
 reply-leads f =
-    demand-framed (leb replyFrame (length f)) 1 refl
+    demand-framed (leb replyLeast (length f)) 1 refl
     (λ h₁. demand-framed (isReply (byte 0 f)) 2 refl
     (λ h₂ e.
-    let l = leb-true replyFrame (length f) h₁ in
+    let l = leb-true replyLeast (length f) h₁ in
     record { some = omega arith; lead = h₂; tells = stated-extent replyLength f _ (omega arith) e }))
 
 -- a request, by its command's shape

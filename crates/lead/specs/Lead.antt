@@ -3,14 +3,21 @@ use Prim.Native.Nat.{ℕ}
 use mathlib.Core.Bool.{Bool, _&&_}
 use lib.Dec.{leb, eqb}
 
+abbrev pub requestLead : ℕ
+requestLead = 0x04
+
 abbrev pub isRequest : ℕ → Bool
-isRequest b = eqb b 0x04
+isRequest b = eqb b requestLead
 
 abbrev pub isReply : ℕ → Bool
 isReply b = leb 0xA0 b && leb b 0xA3
 
 abbrev pub isEvent : ℕ → ℕ → Bool
 isEvent a b = eqb a 0x5A && eqb b 0x43
+
+-- "Reply, 4 + n bytes": those beside its data
+abbrev pub replyLeast : ℕ
+replyLeast = 4
 
 -- "4 | length byte over 64 (reply), over 48 (event)": the most data bytes of a frame
 abbrev pub replyData : ℕ

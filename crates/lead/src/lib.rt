@@ -1,4 +1,4 @@
-// The leads of the three families of frames, and the most data bytes that a frame carries: each number stands here once.
+// The leads of the three families of frames, the least of a reply, and the most data bytes that a frame carries: each number stands here once.
 // Document 01, "Frames" and "Refusals, by number" (2 and 4).
 ghost use mathlib.Core.Path.{_≡_};
 ghost use Rattle.lead.specs.Lead.{isRequest, isReply, isEvent};
@@ -8,6 +8,9 @@ pub const REQUEST: u8 = 0x04;
 
 // "Event, 14 + n bytes: 5A 43, .."
 pub const EVENT: [u8; 2] = [0x5A, 0x43];
+
+// "Reply, 4 + n bytes": those beside its data.
+pub const REPLY_LEAST: usize = 4;
 
 // "Reply, 4 + n bytes: .. n is 0 to 64."
 pub const REPLY_DATA: usize = 64;

@@ -6,7 +6,7 @@ use mathlib.Core.List.{List}
 use lib.ListN.{length}
 use lib.Dec.{leb}
 use Rattle.refusal.specs.Test.{pick}
-use Rattle.lead.specs.Lead.{isRequest, isReply, replyData}
+use Rattle.lead.specs.Lead.{isRequest, isReply, replyLeast, replyData}
 use Rattle.frame.specs.Frame.{byte}
 use Rattle.command.specs.declared.Shape.{Shape}
 use Rattle.command.specs.declared.Shape.the-variants.{Unknown, Basic, Unicast}
@@ -23,12 +23,9 @@ abbrev pub isLead : Line → ℕ → Bool
 isLead Request b = isRequest b
 isLead Reply b = isReply b
 
--- "Reply, 4 + n bytes: type, sequence, n, n data bytes, sum": the bytes beside the data, and what tells the length of a reply
-abbrev pub replyFrame : ℕ
-replyFrame = 4
-
+-- "Reply, 4 + n bytes: type, sequence, n, n data bytes, sum": what tells the length of a reply
 abbrev pub replyLength : Told
-replyLength = tested 2 (λ b. leb b replyData) (λ b. b + replyFrame)
+replyLength = tested 2 (λ b. leb b replyData) (λ b. b + replyLeast)
 
 -- "Fewer bytes than a rule needs: wait."
 abbrev pub upTo : ℕ → List ℕ → Extent → Extent
@@ -67,11 +64,11 @@ inTable Reply f = true
 -- the least and the greatest length of a frame: "Basic request, 8 bytes", "Request 40, 11 bytes", "n is 0 to 64"
 abbrev pub leastOf : Line → ℕ
 leastOf Request = basicBytes
-leastOf Reply = replyFrame
+leastOf Reply = replyLeast
 
 abbrev pub longestOf : Line → ℕ
 longestOf Request = unicastBytes
-longestOf Reply = replyData + replyFrame
+longestOf Reply = replyData + replyLeast
 
 -- "A reader holds at most 67 bytes of a reply line and 10 of a request line": one less than the longest frame has
 abbrev pub capOf : Line → ℕ

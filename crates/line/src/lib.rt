@@ -19,13 +19,10 @@ pub enum Line {
     Reply,
 }
 
-// "Reply, 4 + n bytes: type, sequence, n, n data bytes, sum": the bytes beside the data.
-const REPLY_FRAME: usize = 4;
-
 // The longest frame of each line: that of request 40, and a reply with the most data.
 pub const REQUEST_LONGEST: usize = command::UNICAST_BYTES;
 
-pub const REPLY_LONGEST: usize = lead::REPLY_DATA + REPLY_FRAME;
+pub const REPLY_LONGEST: usize = lead::REPLY_DATA + lead::REPLY_LEAST;
 
 // The most bytes that a reader of the line holds: one less than the longest frame has.
 pub fn most(line: Line) -> usize
@@ -93,7 +90,7 @@ fn reply_extent(s: &[u8]) -> Extent
     if lead::REPLY_DATA < n {
         return Extent::Bad(4, 3);
     }
-    Extent::Frame(n + REPLY_FRAME)
+    Extent::Frame(n + lead::REPLY_LEAST)
 }
 
 fn extent_of(line: Line, s: &[u8]) -> Extent

@@ -9,13 +9,13 @@ use lib.Dec.{leb, eqb}
 use borrow.Author.Tests.{leb-true, eqb-true, eq-eqb, le-leb}
 use native.Mathlib.Omega.{arith}
 use Rattle.refusal.specs.Answer.{Answer, full, demand-elim, full-one}
-use Rattle.lead.specs.Lead.{isReply, replyData}
+use Rattle.lead.specs.Lead.{isReply, replyData, replyLeast}
 use Rattle.sum.specs.Bytes.{Bytes, bytes-cons, bytes-head, bytes-tail, bytes-take, bytes-drop}
 use Rattle.sum.specs.Sum.{sumOf}
 use Rattle.frame.specs.Demand2 as family
 use Rattle.frame.specs.Demand2.{Demand2, demand2}
 use Rattle.frame.specs.Frame.{byte, sealed-sum, sealed-length, sealed-bytes, opened}
-use Rattle.reply.specs.Layout.{Fields, reply, InRange, reply-fits, least, dataAt, head, layout}
+use Rattle.reply.specs.Layout.{Fields, reply, InRange, reply-fits, dataAt, head, layout}
 use Rattle.reply.specs.Reading.{readReply, fieldsOf}
 use Rattle.reply.specs.Writing.{replyFrame}
 use Rattle.reply.specs.declared.Reply.{Reply}
@@ -32,13 +32,13 @@ reply-reads : (t s : ℕ) (l : List ℕ) → isReply t ≡ true → length l ≤
 unfolding readReply
 reply-reads t s l h m =
     let x : List ℕ = layout (reply t s l) in
-    let n : length x ≡ length l + least = omega (arith, sealed-length (head (reply t s l))) in
-    let four : least ≤ length x = omega arith in
+    let n : length x ≡ length l + replyLeast = omega (arith, sealed-length (head (reply t s l))) in
+    let four : replyLeast ≤ length x = omega arith in
     let z : sumOf x ≡ 0 = sealed-sum (head (reply t s l)) in
     record {
       reading = record { kind = t; sequence = s; n = length l };
       accepted =
-          rw (le-leb least (length x) four, h, le-leb (length l) replyData m, eq-eqb (length x) (length l + least) n, eq-eqb (sumOf x) 0 z);
+          rw (le-leb replyLeast (length x) four, h, le-leb (length l) replyData m, eq-eqb (length x) (length l + replyLeast) n, eq-eqb (sumOf x) 0 z);
       fields = ap (reply t s) (take-append-seam l (sumOf (head (reply t s l)) ∷ []));
     }
 
@@ -59,14 +59,14 @@ in-range-written (reply t s l) (reply-fits h m b) = rw (h, le-leb (length l) rep
 accepted-frame : (d : List ℕ) (r : Reply) → Bytes d → readReply d ≡ full r → InRange (fieldsOf r d) × (d ≡ layout (fieldsOf r d))
 unfolding readReply
 accepted-frame d r bs =
-    demand-elim (leb least (length d)) 1
+    demand-elim (leb replyLeast (length d)) 1
     (λ h₁. demand-elim (isReply (byte 0 d)) 2
     (λ h₂. demand-elim (leb (byte 2 d) replyData) 4
-    (λ h₄. demand-elim (eqb (length d) (byte 2 d + least)) 5
+    (λ h₄. demand-elim (eqb (length d) (byte 2 d + replyLeast)) 5
     (λ h₅. demand-elim (eqb (sumOf d) 0) 6
     (λ h₆ e.
     let n : ℕ = byte 2 d in
-    let long = eqb-true (length d) (n + least) h₅ in
+    let long = eqb-true (length d) (n + replyLeast) h₅ in
     let l : List ℕ = take n (drop dataAt d) in
     let size : length l ≡ n = simp (length-take, length-drop) (omega arith) in
     let o : d ≡ layout (reply (byte 0 d) (byte 1 d) l) = rw size (opened dataAt n d (omega arith) (eqb-true (sumOf d) 0 h₆)) in

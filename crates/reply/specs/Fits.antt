@@ -7,28 +7,28 @@ use lib.Dec.{leb, eqb}
 use borrow.Author.Tests.{leb-true, eqb-true}
 use native.Mathlib.Omega.{arith}
 use Rattle.refusal.specs.Answer.{full, demand-elim, full-one}
-use Rattle.lead.specs.Lead.{isReply, replyData}
+use Rattle.lead.specs.Lead.{isReply, replyData, replyLeast}
 use Rattle.sum.specs.Bytes.{Bytes}
 use Rattle.sum.specs.Sum.{sumOf}
 use Rattle.frame.specs.Frame.{byte}
-use Rattle.reply.specs.Layout.{least, dataAt}
+use Rattle.reply.specs.Layout.{dataAt}
 use Rattle.reply.specs.Reading.{readReply}
 use Rattle.reply.specs.Writing.{replyFrame}
 use Rattle.reply.specs.Demand2.{replies}
 use Rattle.reply.specs.declared.Reply.{Reply}
 
 -- an accepted reply has its data
-pub read-fits : (d : List ℕ) (r : Reply) → readReply d ≡ full r → (length d ≡ r .n + least) × (r .n ≤ replyData)
+pub read-fits : (d : List ℕ) (r : Reply) → readReply d ≡ full r → (length d ≡ r .n + replyLeast) × (r .n ≤ replyData)
 unfolding readReply
 read-fits d r =
-    demand-elim (leb least (length d)) 1
+    demand-elim (leb replyLeast (length d)) 1
     (λ h₁. demand-elim (isReply (byte 0 d)) 2
     (λ h₂. demand-elim (leb (byte 2 d) replyData) 4
-    (λ h₄. demand-elim (eqb (length d) (byte 2 d + least)) 5
+    (λ h₄. demand-elim (eqb (length d) (byte 2 d + replyLeast)) 5
     (λ h₅. demand-elim (eqb (sumOf d) 0) 6
     (λ h₆ e.
     let z : byte 2 d ≡ r .n = ap (λ (x : Reply). x .n) (full-one e) in
-    let l = eqb-true (length d) (byte 2 d + least) h₅ in
+    let l = eqb-true (length d) (byte 2 d + replyLeast) h₅ in
     let m = leb-true (byte 2 d) replyData h₄ in
     (omega arith, omega arith))))))
 

@@ -10,10 +10,7 @@ use Rattle.lead.specs.Lead.{isReply, replyData}
 use Rattle.sum.specs.Bytes.{Bytes}
 use Rattle.frame.specs.Frame.{sealed}
 
--- "4 + n bytes": the least of a reply; and where its data begin, behind type, sequence and n
-abbrev pub least : ℕ
-least = 4
-
+-- where a reply's data begin, behind type, sequence and n
 abbrev pub dataAt : ℕ
 dataAt = 3
 

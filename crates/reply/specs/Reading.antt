@@ -5,11 +5,11 @@ use lib.ListN.{length, take, drop}
 use lib.Dec.{leb, eqb}
 use Rattle.refusal.specs.Test.{pick}
 use Rattle.refusal.specs.Answer.{Answer, refused, full, demand}
-use Rattle.lead.specs.Lead.{isReply, replyData}
+use Rattle.lead.specs.Lead.{isReply, replyData, replyLeast}
 use Rattle.sum.specs.Sum.{sumOf}
 use Rattle.frame.specs.Frame.{byte}
 use Rattle.error.specs.Error.{Naming, name, no-name, nameOf}
-use Rattle.reply.specs.Layout.{Fields, reply, least, dataAt}
+use Rattle.reply.specs.Layout.{Fields, reply, dataAt}
 use Rattle.reply.specs.declared.Reply.{Reply}
 use Rattle.reply.specs.declared.Reading.{Reading}
 use Rattle.reply.specs.declared.Reading.the-variants.{Accepted, Refused}
@@ -23,10 +23,10 @@ said (Accepted r) = full r
 
 unfoldable pub readReply : List ℕ → Answer Reply
 readReply d =
-    demand (leb least (length d)) 1
+    demand (leb replyLeast (length d)) 1
     (demand (isReply (byte 0 d)) 2
     (demand (leb (byte 2 d) replyData) 4
-    (demand (eqb (length d) (byte 2 d + least)) 5
+    (demand (eqb (length d) (byte 2 d + replyLeast)) 5
     (demand (eqb (sumOf d) 0) 6
     (full (record { kind = byte 0 d; sequence = byte 1 d; n = byte 2 d }))))))
 

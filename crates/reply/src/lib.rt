@@ -13,9 +13,7 @@ ghost use Rattle.reply.specs.Writing.{replyFrame};
 use error::Name;
 use frame::Wrote;
 
-// "Reply, 4 + n bytes: type, sequence, n, n data bytes, sum": the least, and where the data begin.
-const LEAST: usize = 4;
-
+// "Reply, 4 + n bytes: type, sequence, n, n data bytes, sum": where the data begin.
 const DATA_AT: usize = 3;
 
 // "A3 ERROR"
@@ -46,7 +44,7 @@ pub enum Code {
 pub fn read(s: &[u8]) -> Reading
     ensures { λ r. ⌜ said r ≡ readReply (now (s .entry)) ⌝ }
 {
-    if s.len() < LEAST {
+    if s.len() < lead::REPLY_LEAST {
         return Reading::Refused(1);
     }
     let kind = s[0];
@@ -57,7 +55,7 @@ pub fn read(s: &[u8]) -> Reading
     if lead::REPLY_DATA < n {
         return Reading::Refused(4);
     }
-    if s.len() != n + LEAST {
+    if s.len() != n + lead::REPLY_LEAST {
         return Reading::Refused(5);
     }
     if sum::xor(s) != 0 {

@@ -6,6 +6,7 @@ use mathlib.Core.Path.{_≡_}
 use mathlib.Core.Bool.{true}
 use mathlib.Core.List.{List, [], _∷_, _++_}
 use Rattle.sum.specs.Bytes.{Bytes}
+use Rattle.lead.specs.Lead.{requestLead}
 use Rattle.frame.specs.Frame.{sealed}
 use Rattle.order.specs.Big.{bigBytes}
 use Rattle.command.specs.declared.Rule.{Rule}
@@ -36,8 +37,8 @@ Writable f = InRange f × (mayWrite (commandIn f) ≡ true)
 
 -- the bytes in front of the sum
 abbrev pub head : Fields → List ℕ
-head (basic s k a b c d) = 0x04 ∷ s ∷ k ∷ a ∷ b ∷ c ∷ d ∷ []
-head (unicast s port i j k l) = 0x04 ∷ s ∷ unicastCommand ∷ unicastLength ∷ bigBytes 2 port ++ (i ∷ j ∷ k ∷ l ∷ [])
+head (basic s k a b c d) = requestLead ∷ s ∷ k ∷ a ∷ b ∷ c ∷ d ∷ []
+head (unicast s port i j k l) = requestLead ∷ s ∷ unicastCommand ∷ unicastLength ∷ bigBytes 2 port ++ (i ∷ j ∷ k ∷ l ∷ [])
 
 -- a request's datagram
 abbrev pub layout : Fields → List ℕ
