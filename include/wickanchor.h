@@ -1,38 +1,385 @@
-/* The functions of libwickanchor.a (rt staticlib wickanchor; x86-64). A run of bytes is a pointer and a length. Nothing is asked of the
-   bytes or numbers that are handed in. `refusal` is document 01's number, 0 for none; the fields of a refused datagram are all 0. */
+/* The functions of libwickanchor.a (rt staticlib wickanchor; x86-64): a codec for TPI Advanced.
+
+   What is asked of a caller:
+   - A run of bytes is a pointer and a length, and so many bytes can be read there. NULL with length 0 is an empty run.
+   - A lent buffer `out` has `room` bytes that can be written, and shares no byte with any other run of the same call.
+   - No run lies in the variable that the call's answer is assigned to. (Structs go by value: `book = wick_ask(book, command).book` is fine.)
+   - Nothing is asked of the bytes, numbers and structs that are handed in. Functions keep nothing between calls, and may run at once.
+
+   `refusal` is 0 where a call is not refused; then the fields count. Else it is one of enum wick_refusal, and all other fields are 0
+   (but for a book, which is handed back as it was). The lowest number that applies is given. A refused writer writes no byte; one that
+   is not refused writes `count` bytes, and leaves those behind them. */
 #ifndef WICKANCHOR_H
 #define WICKANCHOR_H
 
 #include <stdint.h>
 
+#define WICKANCHOR_VERSION 1
+
+#ifdef __cplusplus
+extern "C" {
+#define WICK_SIZE(type, size) static_assert(sizeof(type) == (size), "the layout of " #type)
+#else
+#define WICK_SIZE(type, size) _Static_assert(sizeof(type) == (size), "the layout of " #type)
+#endif
+
+/* Sizes in bytes: of frames, of data, and where data begin in a frame */
+#define WICK_BASIC_BYTES 8
+#define WICK_UNICAST_BYTES 11
+#define WICK_REQUEST_MOST 11
+#define WICK_REPLY_LEAST 4
+#define WICK_REPLY_MOST 68
+#define WICK_REPLY_DATA_MOST 64
+#define WICK_REPLY_DATA_AT 3
+#define WICK_EVENT_LEAST 14
+#define WICK_EVENT_MOST 62
+#define WICK_EVENT_DATA_MOST 48
+#define WICK_EVENT_DATA_AT 13
+#define WICK_EVENT_TARGET_MOST 0xFFFFFF
+#define WICK_FILTERS_MOST 15
+
+/* The most bytes that a reader of a line holds */
+#define WICK_REQUEST_LINE_HELD 10
+#define WICK_REPLY_LINE_HELD 67
+
+enum wick_refusal {
+    WICK_OK = 0,
+    WICK_TOO_SHORT = 1,             /* shorter than the least of its family */
+    WICK_BAD_LEAD = 2,              /* the first bytes are not those of its family; the type given to a writer of replies */
+    WICK_UNKNOWN_COMMAND = 3,       /* also 40 given to the writer of basic requests */
+    WICK_BAD_LENGTH_BYTE = 4,       /* also more data than a frame carries, in writing */
+    WICK_BAD_LENGTH = 5,            /* the datagram's length is not the one that its frame states */
+    WICK_BAD_SUM = 6,
+    WICK_BAD_ARGUMENT = 7,          /* outside the table; an instance event without data; an event target too large */
+    WICK_NO_ROOM = 8,               /* the buffer is shorter than the frame */
+    WICK_NO_NUMBER_FREE = 9,        /* all 256 sequence numbers are unanswered */
+    WICK_NOT_AWAITED = 10,          /* a reply's sequence number */
+    WICK_BAD_DATA_SIZE = 11,        /* of reply data */
+    WICK_NONE_THERE = 12            /* lowest of an empty map; no such filter entry */
+};
+
+/* The 32 commands, by the maker's names */
+enum wick_command {
+    WICK_QUERY_GROUP_LABEL = 0x01,
+    WICK_ENABLE_TPI_EVENT_EMIT = 0x08,
+    WICK_QUERY_GROUP_NUMBERS = 0x09,
+    WICK_QUERY_SCENE_NUMBERS = 0x0A,
+    WICK_QUERY_PROFILE_NUMBERS = 0x0B,
+    WICK_QUERY_OCCUPANCY_INSTANCE_TIMERS = 0x0C,
+    WICK_QUERY_SCENE_NUMBERS_FOR_GROUP = 0x1A,
+    WICK_QUERY_SCENE_LABEL_FOR_GROUP = 0x1B,
+    WICK_QUERY_CONTROLLER_VERSION_NUMBER = 0x1C,
+    WICK_QUERY_CONTROL_GEAR_DALI_ADDRESSES = 0x1D,
+    WICK_QUERY_DMX_DEVICE_LABEL_BY_NUMBER = 0x20,
+    WICK_DALI_ADD_TPI_EVENT_FILTER = 0x31,
+    WICK_QUERY_DALI_TPI_EVENT_FILTERS = 0x32,
+    WICK_DALI_CLEAR_TPI_EVENT_FILTERS = 0x33,
+    WICK_QUERY_DALI_COLOUR = 0x34,
+    WICK_SET_TPI_EVENT_UNICAST_ADDRESS = 0x40,
+    WICK_QUERY_TPI_EVENT_UNICAST_ADDRESS = 0x41,
+    WICK_DALI_INHIBIT = 0xA0,
+    WICK_DALI_SCENE = 0xA1,
+    WICK_DALI_ARC_LEVEL = 0xA2,
+    WICK_DALI_ON_STEP_UP = 0xA3,
+    WICK_DALI_STEP_DOWN_OFF = 0xA4,
+    WICK_DALI_UP = 0xA5,
+    WICK_DALI_DOWN = 0xA6,
+    WICK_DALI_RECALL_MAX = 0xA7,
+    WICK_DALI_RECALL_MIN = 0xA8,
+    WICK_DALI_OFF = 0xA9,
+    WICK_DALI_QUERY_LEVEL = 0xAA,
+    WICK_DALI_QUERY_CONTROL_GEAR_STATUS = 0xAB,
+    WICK_DALI_QUERY_CG_TYPE = 0xAC,
+    WICK_DALI_QUERY_LAST_SCENE = 0xAD,
+    WICK_DALI_QUERY_LAST_SCENE_IS_CURRENT = 0xAE
+};
+
+enum wick_reply_type {
+    WICK_REPLY_OK = 0xA0,
+    WICK_REPLY_ANSWER = 0xA1,
+    WICK_REPLY_NO_ANSWER = 0xA2,
+    WICK_REPLY_ERROR = 0xA3
+};
+
+/* Error codes, by the maker's names; beside each the number of its name */
+enum wick_error {
+    WICK_ERROR_CHECKSUM = 0x01,             /* 1 */
+    WICK_ERROR_SHORT_CIRCUIT = 0x02,        /* 2 */
+    WICK_ERROR_RECEIVE_ERROR = 0x03,        /* 3 */
+    WICK_ERROR_UNKNOWN_CMD = 0x04,          /* 4 */
+    WICK_ERROR_PAID_FEATURE = 0xB0,         /* 5 */
+    WICK_ERROR_INVALID_ARGS = 0xB1,         /* 6 */
+    WICK_ERROR_CMD_REFUSED = 0xB2,          /* 7 */
+    WICK_ERROR_QUEUE_FAILURE = 0xB3,        /* 8 */
+    WICK_ERROR_RESPONSE_UNAVAIL = 0xB4,     /* 9 */
+    WICK_ERROR_OTHER_DALI_ERROR = 0xB5,     /* 10 */
+    WICK_ERROR_MAX_LIMIT = 0xB6,            /* 11 */
+    WICK_ERROR_UNEXPECTED_RESULT = 0xB7,    /* 12 */
+    WICK_ERROR_UNKNOWN_TARGET = 0xB8        /* 13 */
+};
+
+/* Event types, by the maker's names. A type above 9 is accepted and keeps its number. Types 0, 1, 2, 6 and 7 carry an instance number as
+   their first data byte. */
+enum wick_event_type {
+    WICK_BUTTON_PRESS = 0,
+    WICK_BUTTON_HOLD = 1,
+    WICK_ABSOLUTE_INPUT = 2,
+    WICK_LEVEL_CHANGE = 3,
+    WICK_GROUP_LEVEL_CHANGE = 4,
+    WICK_SCENE_CHANGE = 5,
+    WICK_IS_OCCUPIED = 6,
+    WICK_IS_UNOCCUPIED = 7,
+    WICK_COLOUR_CHANGED = 8,
+    WICK_PROFILE_CHANGED = 9
+};
+
+/* What a target names */
+enum wick_aim_kind {
+    WICK_AIM_NONE = 0,              /* no target is meant */
+    WICK_AIM_GEAR = 1,              /* number: its address */
+    WICK_AIM_GROUP = 2,             /* number: of the group, 0 to 15 */
+    WICK_AIM_BROADCAST = 3,
+    WICK_AIM_NOTHING = 4            /* the byte is no target */
+};
+
+struct wick_aim {
+    uint8_t kind, number;
+};
+
+/* What the arguments of a basic request mean; beside each kind the fields that it has. Every other field is 0. */
+enum wick_meaning_kind {
+    WICK_MEANS_NONE = 0,            /* refused, or command 40 */
+    WICK_MEANS_NOTHING = 1,         /* no argument */
+    WICK_MEANS_GROUP = 2,           /* first: the group's number */
+    WICK_MEANS_EMIT = 3,            /* first: the mode's bits */
+    WICK_MEANS_TIMERS = 4,          /* first: control device address, second: instance */
+    WICK_MEANS_GROUP_SCENE = 5,     /* first: the group's number, second: scene */
+    WICK_MEANS_CHANNEL = 6,         /* first: universe, wide: channel */
+    WICK_MEANS_FILTER = 7,          /* first: address, second: instance, wide: mask */
+    WICK_MEANS_QUERY = 8,           /* first: address, second: start, third: instance */
+    WICK_MEANS_GEAR = 9,            /* first: the gear's address */
+    WICK_MEANS_INHIBIT = 10,        /* aim, wide: seconds */
+    WICK_MEANS_SCENE = 11,          /* aim, first: scene */
+    WICK_MEANS_LEVEL = 12,          /* aim, first: level */
+    WICK_MEANS_LIT = 13,            /* aim: what is lit */
+    WICK_MEANS_TARGET = 14          /* aim: what is asked about */
+};
+
+struct wick_meaning {
+    uint8_t kind;
+    struct wick_aim aim;
+    uint8_t first, second, third;
+    uint16_t wide;
+};
+
+/* An IPv4 address and a MAC address, in the order in which they are written */
+struct wick_address {
+    uint8_t bytes[4];
+};
+
+struct wick_mac {
+    uint8_t bytes[6];
+};
+
+struct wick_number {
+    uint8_t refusal;
+    uint64_t number;
+};
+
+struct wick_wrote {
+    uint8_t refusal;
+    uint64_t count;
+};
+
 struct wick_request {
     uint8_t refusal, sequence, command;
-    uint8_t a, b, c, d;     /* the arguments; 0 for command 40 */
-    uint8_t address[4];     /* of command 40 */
-    uint16_t port;
+    uint8_t a, b, c, d;             /* the arguments; 0 for command 40 */
+    struct wick_address address;    /* of command 40, else 0 */
+    uint16_t port;                  /* of command 40, else 0 */
+    struct wick_meaning meaning;    /* of the arguments */
 };
 
 struct wick_reply {
     uint8_t refusal, kind, sequence;
-    uint64_t n;             /* the data are the n bytes from the fourth on */
+    uint64_t data_at, n;            /* the data are the n bytes of the datagram from data_at on */
+};
+
+struct wick_code {
+    uint8_t refusal;
+    uint8_t has_code;               /* 0: the reply has none */
+    uint8_t code;
+    uint8_t name;                   /* the number of its name, 0 where it has none */
 };
 
 struct wick_event {
-    uint8_t refusal, kind, instance, has_instance;
-    uint8_t mac[6];
+    uint8_t refusal, kind;
+    uint8_t instance, has_instance; /* 0 and 0 where the type carries none */
+    struct wick_mac mac;
     uint32_t target;
-    uint64_t n;             /* the data are the n bytes from the fourteenth on */
+    uint64_t data_at, n;            /* the data are the n bytes of the datagram from data_at on, the instance included */
 };
 
-struct wick_wrote {
-    uint8_t refusal;        /* a refused call writes no byte */
+struct wick_filters {
+    uint8_t refusal, mode;
+    uint64_t entries;
+};
+
+struct wick_filter {
+    uint8_t refusal, address, instance;
+    uint16_t mask;
+};
+
+/* The book of unanswered requests: the command asked under each sequence number (a number that is no known command counts as nothing
+   asked), and the last number given. A caller keeps it, hands it in by value, and goes on with the one handed back. */
+struct wick_book {
+    uint8_t asked[256];
+    uint8_t last;
+};
+
+struct wick_booked {
+    uint8_t refusal;
+    uint8_t answer;                 /* the sequence number, or the command */
+    struct wick_book book;          /* afterwards */
+};
+
+enum wick_line {
+    WICK_REQUEST_LINE = 0,
+    WICK_REPLY_LINE = 1             /* as is every other number */
+};
+
+/* A reader of a line between two calls: it holds the first len of its bytes. A caller keeps it, hands it in by value, and goes on with the
+   one handed back. One that claims more than its line's most (WICK_.._LINE_HELD) is taken as one that holds nothing. */
+struct wick_reader {
+    uint8_t bytes[67];
+    uint64_t len;
+};
+
+/* Numbers of items: 0 a frame; 7 a whole frame with an argument outside the table; else one byte that begins none: 1 cut off by the line's
+   end, 2 no lead, 3 unknown command, 4 bad length byte, 6 bad sum. */
+struct wick_given {
+    struct wick_reader reader;      /* afterwards */
+    uint64_t taken;                 /* bytes of the part */
+    uint8_t has_item;               /* 0: nothing yet (feeding), or empty (closing) */
+    uint8_t item;                   /* its number */
+    uint64_t count;                 /* of its bytes */
+    uint8_t bytes[68];              /* these, and zeros behind them */
+};
+
+struct wick_item {
+    uint8_t has_item;               /* 0: nothing, or not yet */
+    uint8_t item;
     uint64_t count;
 };
 
+WICK_SIZE(struct wick_aim, 2);
+WICK_SIZE(struct wick_meaning, 8);
+WICK_SIZE(struct wick_address, 4);
+WICK_SIZE(struct wick_mac, 6);
+WICK_SIZE(struct wick_number, 16);
+WICK_SIZE(struct wick_wrote, 16);
+WICK_SIZE(struct wick_request, 22);
+WICK_SIZE(struct wick_reply, 24);
+WICK_SIZE(struct wick_code, 4);
+WICK_SIZE(struct wick_event, 32);
+WICK_SIZE(struct wick_filters, 16);
+WICK_SIZE(struct wick_filter, 6);
+WICK_SIZE(struct wick_book, 257);
+WICK_SIZE(struct wick_booked, 259);
+WICK_SIZE(struct wick_reader, 80);
+WICK_SIZE(struct wick_given, 176);
+WICK_SIZE(struct wick_item, 16);
+
+/* Reads a request datagram. Refusals 1, 2, 3, 4, 5, 6, 7. */
 struct wick_request wick_request(const uint8_t *bytes, uint64_t length);
-struct wick_reply wick_reply(const uint8_t *bytes, uint64_t length);
-struct wick_event wick_event(const uint8_t *bytes, uint64_t length);
+
+/* Writes a basic request. Refusals 3, 7, 8. */
 struct wick_wrote wick_write_basic(uint8_t sequence, uint8_t command, uint8_t a, uint8_t b, uint8_t c, uint8_t d, uint8_t *out, uint64_t room);
+
+/* Writes request 40. Refusal 8. */
+struct wick_wrote wick_write_unicast(uint8_t sequence, uint16_t port, struct wick_address address, uint8_t *out, uint64_t room);
+
+/* Reads a datagram of its family and writes it again, byte for byte. Refusals of the reader, and 8. */
+struct wick_wrote wick_relay_request(const uint8_t *bytes, uint64_t length, uint8_t *out, uint64_t room);
+struct wick_wrote wick_relay_reply(const uint8_t *bytes, uint64_t length, uint8_t *out, uint64_t room);
+struct wick_wrote wick_relay_event(const uint8_t *bytes, uint64_t length, uint8_t *out, uint64_t room);
+
+/* Reads a reply datagram. Refusals 1, 2, 4, 5, 6. */
+struct wick_reply wick_reply(const uint8_t *bytes, uint64_t length);
+
+/* The error code of a reply datagram: the first data byte of one of type ERROR. Refusals as wick_reply. */
+struct wick_code wick_error_code(const uint8_t *bytes, uint64_t length);
+
+/* The number of an error code's name, 0 where it has none. */
+uint8_t wick_error_name(uint8_t code);
+
+/* Writes a reply with n data bytes. Refusals 2, 4, 8. `data` and `out` must not overlap. */
 struct wick_wrote wick_write_reply(uint8_t kind, uint8_t sequence, const uint8_t *data, uint64_t n, uint8_t *out, uint64_t room);
+
+/* Reads an event datagram. Refusals 1, 2, 4, 5, 6, 7. */
+struct wick_event wick_event(const uint8_t *bytes, uint64_t length);
+
+/* Writes an event with n data bytes, the instance included. Refusals 4, 7, 8. `data` and `out` must not overlap. */
+struct wick_wrote wick_write_event(struct wick_mac mac, uint32_t target, uint8_t kind, const uint8_t *data, uint64_t n, uint8_t *out, uint64_t room);
+
+/* The exclusive-or of some bytes: 0 for a whole frame. */
+uint8_t wick_sum(const uint8_t *bytes, uint64_t length);
+
+/* 1 where the command is one of the 32, else 0. */
+uint8_t wick_known(uint8_t command);
+
+/* Maps in reply data, as one number whose bit k stands for event type, scene, gear or gear type k. Refusal 11 where there are not 2, 2, 8 or 4
+   bytes. */
+struct wick_number wick_mask(const uint8_t *bytes, uint64_t length);
+struct wick_number wick_scenes(const uint8_t *bytes, uint64_t length);
+struct wick_number wick_gear(const uint8_t *bytes, uint64_t length);
+struct wick_number wick_types(const uint8_t *bytes, uint64_t length);
+
+/* How many event types a mask names, and how many gear are present. */
+uint32_t wick_count_types(uint16_t mask);
+uint32_t wick_count_gear(uint64_t gear);
+
+/* The lowest of them. Refusal 12 where there is none. */
+struct wick_number wick_lowest_type(uint16_t mask);
+struct wick_number wick_lowest_gear(uint64_t gear);
+
+/* The filters in the reply to 32: mode and number of entries, and entry i, from 0. Refusal 11 where there are not 1 + 4k bytes with k at most
+   15; 12 where there are not so many entries. */
+struct wick_filters wick_filters(const uint8_t *bytes, uint64_t length);
+struct wick_filter wick_filter(const uint8_t *bytes, uint64_t length, uint64_t i);
+
+/* The target on the line of a group 0 to 15; the address of a control device by its own number 0 to 63, and back. Refusal 7. */
+struct wick_number wick_group_target(uint8_t group);
+struct wick_number wick_device(uint8_t number);
+struct wick_number wick_device_number(uint8_t address);
+
+/* What a lighting command with this target lights, and what a query of gear status (AB) with it asks about. */
+struct wick_aim wick_lights(uint8_t target);
+struct wick_aim wick_status(uint8_t target);
+
+/* A book in which nothing is asked, and whose first number is 0. */
+struct wick_book wick_book(void);
+
+/* The sequence number for a request with this command, which is awaited from then on. Refusals 3, 9. */
+struct wick_booked wick_ask(struct wick_book book, uint8_t command);
+
+/* The command that was asked under a reply's sequence number, which is free from then on. Refusal 10. */
+struct wick_booked wick_answer(struct wick_book book, uint8_t number);
+
+/* A reader that holds nothing. */
+struct wick_reader wick_reader(void);
+
+/* Takes the fewest bytes of a part that settle the next item, and gives it; or takes all, where none is settled. `line` is one of enum
+   wick_line. Feed the rest of the part, from `taken` on, until there is no item. */
+struct wick_given wick_feed(uint8_t line, struct wick_reader reader, const uint8_t *part, uint64_t length);
+
+/* The next item of the bytes held, as if the line ended behind them; without an item, the reader holds nothing. */
+struct wick_given wick_close(uint8_t line, struct wick_reader reader);
+
+/* What stands at a position of a line from which on these bytes are there. `closed` is not 0 where no more come. */
+struct wick_item wick_item_at(uint8_t line, uint8_t closed, const uint8_t *bytes, uint64_t length);
+
+#ifdef __cplusplus
+}
+#endif
 
 #endif

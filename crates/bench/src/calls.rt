@@ -2,7 +2,11 @@
 // its answer is said by the crate of its family. docs/BENCH.md, in its order.
 use bench_calls::Call;
 use bench_calls::Called;
+use bench_datagrams::Read;
+use bench_maps::Data;
 use bench_parts::Fit;
+use bench_parts::Part;
+use bench_requests::Asked;
 use book::Book;
 use command::Shape;
 use event::EventType;
@@ -61,7 +65,7 @@ fn write(n: usize, head: &[u8], data: &[u8], buffer: &mut [u8]) -> Wrote {
     let e = bench_words::byte_at(head, 4);
     let f = bench_words::byte_at(head, 5);
     match n {
-        0x11 => {
+        0x70 => {
             let arguments = Arguments {
                 a: c,
                 b: d,
@@ -70,34 +74,28 @@ fn write(n: usize, head: &[u8], data: &[u8], buffer: &mut [u8]) -> Wrote {
             };
             request::write_basic(a, b, arguments, buffer)
         }
-        0x12 => {
+        0x71 => {
             let port = bench_words::wide16(bench_words::part(head, 1, 3));
             let address = Ipv4(d, e, f, bench_words::byte_at(head, 6));
             request::write_unicast(a, port, address, buffer)
         }
-        0x16 => reply::write(a, b, data, buffer),
-        0x19 => {
+        0x72 => request::relay(head, buffer),
+        0x73 => reply::relay(head, buffer),
+        0x74 => event::relay(head, buffer),
+        0x80 => reply::write(a, b, data, buffer),
+        0x81 => {
             let target = bench_words::wide32(bench_words::part(head, 6, 10));
             let kind = bench_words::byte_at(head, 10);
             event::write(Mac(a, b, c, d, e, f), target, kind, data, buffer)
         }
-        0x1A => request::relay(head, buffer),
-        0x1B => reply::relay(head, buffer),
-        0x1C => event::relay(head, buffer),
         _ => frame::write(head, data, buffer),
     }
 }
 
 // A writing call: the buffer, which is shown before and after, is the last group.
-fn wrote(
-    n: usize,
-    head: &[u8],
-    data: &[u8],
-    before: &[u8],
-    buffer: &mut [u8],
-    out: &mut [u8],
-    at: usize,
-) -> usize {
+fn wrote(n: usize, head: &[u8], data: &[u8], before: &[u8], out: &mut [u8], at: usize) -> usize {
+    let mut space = io::buffer();
+    let buffer: &mut [u8] = &mut space;
     let e = lent::word(buffer, 0, before);
     if buffer.len() < e {
         return at;
@@ -106,14 +104,30 @@ fn wrote(
     bench_datagrams::wrote(out, at, w, before, bench_words::part(buffer, 0, e))
 }
 
-fn datagram(n: usize, s: &[u8], out: &mut [u8], at: usize) -> usize {
+// The calls that leave the state, family by family: what each answers.
+fn asked(n: usize, s: &[u8]) -> Asked {
+    let b = bench_words::byte_at(s, 0);
     match n {
-        0x10 => bench_requests::reading(out, at, request::read(s)),
-        0x13 => bench_datagrams::reply(out, at, reply::read(s)),
-        0x14 => bench_say::run(out, at, b"0 data", reply::data(s)),
-        0x15 => bench_datagrams::code(out, at, reply::error_code(s)),
-        0x17 => bench_datagrams::event(out, at, event::read(s)),
-        _ => bench_say::run(out, at, b"0 data", event::data(s)),
+        0x10 => Asked::Reading(request::read(s)),
+        0x11 => Asked::Target(LineTarget(b).lights()),
+        _ => Asked::Target(LineTarget(b).status()),
+    }
+}
+
+fn read(n: usize, s: &[u8]) -> Read {
+    let b = bench_words::byte_at(s, 0);
+    match n {
+        0x90 => Read::Reply(reply::read(s)),
+        0x91 => Read::Code(reply::error_code(s)),
+        0x92 => Read::Event(event::read(s)),
+        _ => Read::Kind(EventType::of(b)),
+    }
+}
+
+fn data_part(n: usize, s: &[u8]) -> &[u8] {
+    match n {
+        0xA0 => reply::data(s),
+        _ => event::data(s),
     }
 }
 
@@ -136,50 +150,51 @@ fn fit(s: &[u8]) -> Fit {
     }
 }
 
-fn part(n: usize, s: &[u8], out: &mut [u8], at: usize) -> usize {
+fn part(n: usize, s: &[u8]) -> Part {
     let b = bench_words::byte_at(s, 0);
     match n {
-        0x20 => bench_say::byte(out, at, b"0 sum ", sum::xor(s)),
-        0x22 => bench_parts::known(out, at, command::known(b)),
-        0x23 => bench_parts::shape(out, at, command::shape_of(b)),
-        0x24 => bench_parts::fits(out, at, fit(s)),
-        0x25 => bench_parts::name(out, at, error::name_of(b)),
-        0x26 => {
-            let e = lent::byte(out, at, b'0');
-            bench_datagrams::kind(out, e, EventType::of(b))
-        }
-        0x27 => bench_parts::on_line(out, at, Group(b).line_target()),
-        0x28 => {
-            let e = lent::byte(out, at, b'0');
-            bench_requests::lights(out, e, LineTarget(b).lights())
-        }
-        0x29 => {
-            let e = lent::byte(out, at, b'0');
-            bench_requests::lights(out, e, LineTarget(b).status())
-        }
-        0x2A => bench_parts::device(out, at, Device::of(b)),
-        _ => bench_parts::number(out, at, Device(b).number()),
+        0x20 => Part::Sum(sum::xor(s)),
+        0x21 => Part::Known(command::known(b)),
+        0x22 => Part::Shape(command::shape_of(b)),
+        0x23 => Part::Fit(fit(s)),
+        0x24 => Part::Name(error::name_of(b)),
+        0x25 => Part::OnLine(Group(b).line_target()),
+        0x26 => Part::Device(Device::of(b)),
+        _ => Part::Number(Device(b).number()),
     }
 }
 
-fn data(n: usize, s: &[u8], t: &[u8], out: &mut [u8], at: usize) -> usize {
+fn data(n: usize, s: &[u8], t: &[u8]) -> Data {
     let mask = bench_words::wide16(s);
     let map = bench_words::wide64(s);
     match n {
-        0x30 => {
-            let number = order::high_first(bench_words::byte_at(s, 0), bench_words::byte_at(s, 1));
-            bench_say::middle(out, at, b"0 number ", number)
-        }
-        0x31 => bench_maps::bits16(out, at, maps::mask(s)),
-        0x32 => bench_say::wide(out, at, b"0 count ", maps::count_types(mask)),
-        0x33 => bench_maps::lowest(out, at, maps::lowest_type(mask)),
-        0x34 => bench_maps::bits16(out, at, maps::scenes(s)),
-        0x35 => bench_maps::bits64(out, at, maps::gear(s)),
-        0x36 => bench_say::wide(out, at, b"0 count ", maps::count_gear(map)),
-        0x37 => bench_maps::lowest(out, at, maps::lowest_gear(map)),
-        0x38 => bench_maps::bits32(out, at, maps::types(s)),
-        0x39 => bench_maps::filters(out, at, filters::read(s)),
-        _ => bench_maps::entry(out, at, filters::entry(t, map as usize)),
+        0x30 => Data::Number(order::high_first(
+            bench_words::byte_at(s, 0),
+            bench_words::byte_at(s, 1),
+        )),
+        0x31 => Data::Bits16(maps::mask(s)),
+        0x32 => Data::Count(maps::count_types(mask)),
+        0x33 => Data::Lowest(maps::lowest_type(mask)),
+        0x34 => Data::Bits16(maps::scenes(s)),
+        0x35 => Data::Bits64(maps::gear(s)),
+        0x36 => Data::Count(maps::count_gear(map)),
+        0x37 => Data::Lowest(maps::lowest_gear(map)),
+        0x38 => Data::Bits32(maps::types(s)),
+        0x39 => Data::Filters(filters::read(s)),
+        _ => Data::Filter(filters::entry(t, map as usize)),
+    }
+}
+
+// A call that leaves the state, by its family.
+fn plain(n: usize, s: &[u8], t: &[u8], u: &[u8], out: &mut [u8], at: usize) -> usize {
+    match n / 16 {
+        1 => bench_requests::say(out, at, asked(n, s)),
+        2 => bench_parts::say(out, at, part(n, s)),
+        3 => bench_maps::say(out, at, data(n, s, t)),
+        7 => wrote(n, s, b"", t, out, at),
+        8 => wrote(n, s, t, u, out, at),
+        9 => bench_datagrams::say(out, at, read(n, s)),
+        _ => bench_say::run(out, at, b"0 data", data_part(n, s)),
     }
 }
 
@@ -265,7 +280,7 @@ fn line(n: usize, l: Line, h: Held, s: &[u8], t: &[u8], out: &mut [u8], at: usiz
 }
 
 // A call, by its family, the first digit of its number.
-fn made(c: Call, state: State, bytes: &[u8], buffer: &mut [u8], out: &mut [u8], at: usize) -> Turn {
+fn made(c: Call, state: State, bytes: &[u8], out: &mut [u8], at: usize) -> Turn {
     let n = c.number;
     let g = c.groups;
     let s = bench_words::part(bytes, 0, g.a);
@@ -274,13 +289,8 @@ fn made(c: Call, state: State, bytes: &[u8], buffer: &mut [u8], out: &mut [u8], 
     let b = state.book;
     let q = state.request;
     let r = state.reply;
-    match n {
-        0x11 | 0x12 | 0x1A | 0x1B | 0x1C => said(state, wrote(n, s, b"", t, buffer, out, at)),
-        0x16 | 0x19 | 0x21 => said(state, wrote(n, s, t, u, buffer, out, at)),
-        0x10..=0x1F => said(state, datagram(n, s, out, at)),
-        0x20..=0x2F => said(state, part(n, s, out, at)),
-        0x30..=0x3F => said(state, data(n, s, t, out, at)),
-        0x40..=0x4F => {
+    match n / 16 {
+        4 => {
             let p = page(n, b, s, t, out, at);
             let book = p.book;
             Turn {
@@ -292,7 +302,7 @@ fn made(c: Call, state: State, bytes: &[u8], buffer: &mut [u8], out: &mut [u8], 
                 at: p.at,
             }
         }
-        0x50..=0x5F => {
+        5 => {
             let p = line(n % 16, Line::Request, q, s, t, out, at);
             let request = p.held;
             Turn {
@@ -304,7 +314,7 @@ fn made(c: Call, state: State, bytes: &[u8], buffer: &mut [u8], out: &mut [u8], 
                 at: p.at,
             }
         }
-        _ => {
+        6 => {
             let p = line(n % 16, Line::Reply, r, s, t, out, at);
             let reply = p.held;
             Turn {
@@ -316,24 +326,17 @@ fn made(c: Call, state: State, bytes: &[u8], buffer: &mut [u8], out: &mut [u8], 
                 at: p.at,
             }
         }
+        _ => said(state, plain(n, s, t, u, out, at)),
     }
 }
 
 // The answer to a line with a word in it.
-pub fn answer(
-    state: State,
-    line: &[u8],
-    bytes: &mut [u8],
-    buffer: &mut [u8],
-    out: &mut [u8],
-    at: usize,
-) -> Turn {
+pub fn answer(state: State, line: &[u8], out: &mut [u8], at: usize) -> Turn {
+    let mut space = io::buffer();
+    let bytes: &mut [u8] = &mut space;
     let c = bench_calls::read(line, bytes);
-    match c {
-        Called::Call(call) => made(call, state, bytes, buffer, out, at),
-        Called::NoSuchCall | Called::NotAByte | Called::WrongGroups | Called::WrongBytes => said(
-            state,
-            bench_calls::refused(out, at, c),
-        ),
-    }
+    let Called::Call(call) = c else {
+        return said(state, bench_calls::refused(out, at, c));
+    };
+    made(call, state, bytes, out, at)
 }

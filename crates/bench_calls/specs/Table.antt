@@ -16,31 +16,31 @@ abbrev pub table : List Row
 table =
     -- Datagrams
     row "request" 0x10_1_000_FFF_FFF
-    ∷ row "write_basic" 0x11_2_006_006_FFF
-    ∷ row "write_unicast" 0x12_2_007_007_FFF
-    ∷ row "reply" 0x13_1_000_FFF_FFF
-    ∷ row "reply_data" 0x14_1_000_FFF_FFF
-    ∷ row "error_code" 0x15_1_000_FFF_FFF
-    ∷ row "write_reply" 0x16_3_002_002_FFF
-    ∷ row "event" 0x17_1_000_FFF_FFF
-    ∷ row "event_data" 0x18_1_000_FFF_FFF
-    ∷ row "write_event" 0x19_3_00B_00B_FFF
-    ∷ row "relay_request" 0x1A_2_000_FFF_FFF
-    ∷ row "relay_reply" 0x1B_2_000_FFF_FFF
-    ∷ row "relay_event" 0x1C_2_000_FFF_FFF
+    ∷ row "write_basic" 0x70_2_006_006_FFF
+    ∷ row "write_unicast" 0x71_2_007_007_FFF
+    ∷ row "reply" 0x90_1_000_FFF_FFF
+    ∷ row "reply_data" 0xA0_1_000_FFF_FFF
+    ∷ row "error_code" 0x91_1_000_FFF_FFF
+    ∷ row "write_reply" 0x80_3_002_002_FFF
+    ∷ row "event" 0x92_1_000_FFF_FFF
+    ∷ row "event_data" 0xA1_1_000_FFF_FFF
+    ∷ row "write_event" 0x81_3_00B_00B_FFF
+    ∷ row "relay_request" 0x72_2_000_FFF_FFF
+    ∷ row "relay_reply" 0x73_2_000_FFF_FFF
+    ∷ row "relay_event" 0x74_2_000_FFF_FFF
     -- Parts of datagrams
     ∷ row "sum" 0x20_1_000_FFF_FFF
-    ∷ row "frame" 0x21_3_000_FFF_FFF
-    ∷ row "known" 0x22_1_001_001_FFF
-    ∷ row "shape" 0x23_1_001_001_FFF
-    ∷ row "fits" 0x24_1_005_005_FFF
-    ∷ row "error_name" 0x25_1_001_001_FFF
-    ∷ row "event_type" 0x26_1_001_001_FFF
-    ∷ row "group_target" 0x27_1_001_001_FFF
-    ∷ row "lights" 0x28_1_001_001_FFF
-    ∷ row "status" 0x29_1_001_001_FFF
-    ∷ row "device" 0x2A_1_001_001_FFF
-    ∷ row "device_number" 0x2B_1_001_001_FFF
+    ∷ row "frame" 0x82_3_000_FFF_FFF
+    ∷ row "known" 0x21_1_001_001_FFF
+    ∷ row "shape" 0x22_1_001_001_FFF
+    ∷ row "fits" 0x23_1_005_005_FFF
+    ∷ row "error_name" 0x24_1_001_001_FFF
+    ∷ row "event_type" 0x93_1_001_001_FFF
+    ∷ row "group_target" 0x25_1_001_001_FFF
+    ∷ row "lights" 0x11_1_001_001_FFF
+    ∷ row "status" 0x12_1_001_001_FFF
+    ∷ row "device" 0x26_1_001_001_FFF
+    ∷ row "device_number" 0x27_1_001_001_FFF
     -- Reply data
     ∷ row "high_first" 0x30_1_002_002_FFF
     ∷ row "mask" 0x31_1_000_FFF_FFF

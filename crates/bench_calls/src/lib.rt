@@ -26,35 +26,36 @@ pub enum Called {
 
 // A row for each call: its number, how many groups it takes, how many bytes the first has at least and at most, and how
 // many the second has at most, as digits of one hexadecimal number. FFF is more than a line can name. A third group may
-// have any. The first digit of a call's number is its family; new calls stand behind those of theirs.
+// have any. The first digit of a call's number is its family: what is answered of it is of one kind. (7 and 8 write into a
+// buffer, which is their last group of two or of three; A gives the data of a datagram.) New calls stand behind those of theirs.
 const ROWS: [usize; 55] = [
     // Datagrams
     0x10_1_000_FFF_FFF, // request
-    0x11_2_006_006_FFF, // write_basic
-    0x12_2_007_007_FFF, // write_unicast
-    0x13_1_000_FFF_FFF, // reply
-    0x14_1_000_FFF_FFF, // reply_data
-    0x15_1_000_FFF_FFF, // error_code
-    0x16_3_002_002_FFF, // write_reply
-    0x17_1_000_FFF_FFF, // event
-    0x18_1_000_FFF_FFF, // event_data
-    0x19_3_00B_00B_FFF, // write_event
-    0x1A_2_000_FFF_FFF, // relay_request
-    0x1B_2_000_FFF_FFF, // relay_reply
-    0x1C_2_000_FFF_FFF, // relay_event
+    0x70_2_006_006_FFF, // write_basic
+    0x71_2_007_007_FFF, // write_unicast
+    0x90_1_000_FFF_FFF, // reply
+    0xA0_1_000_FFF_FFF, // reply_data
+    0x91_1_000_FFF_FFF, // error_code
+    0x80_3_002_002_FFF, // write_reply
+    0x92_1_000_FFF_FFF, // event
+    0xA1_1_000_FFF_FFF, // event_data
+    0x81_3_00B_00B_FFF, // write_event
+    0x72_2_000_FFF_FFF, // relay_request
+    0x73_2_000_FFF_FFF, // relay_reply
+    0x74_2_000_FFF_FFF, // relay_event
     // Parts of datagrams
     0x20_1_000_FFF_FFF, // sum
-    0x21_3_000_FFF_FFF, // frame
-    0x22_1_001_001_FFF, // known
-    0x23_1_001_001_FFF, // shape
-    0x24_1_005_005_FFF, // fits
-    0x25_1_001_001_FFF, // error_name
-    0x26_1_001_001_FFF, // event_type
-    0x27_1_001_001_FFF, // group_target
-    0x28_1_001_001_FFF, // lights
-    0x29_1_001_001_FFF, // status
-    0x2A_1_001_001_FFF, // device
-    0x2B_1_001_001_FFF, // device_number
+    0x82_3_000_FFF_FFF, // frame
+    0x21_1_001_001_FFF, // known
+    0x22_1_001_001_FFF, // shape
+    0x23_1_005_005_FFF, // fits
+    0x24_1_001_001_FFF, // error_name
+    0x93_1_001_001_FFF, // event_type
+    0x25_1_001_001_FFF, // group_target
+    0x11_1_001_001_FFF, // lights
+    0x12_1_001_001_FFF, // status
+    0x26_1_001_001_FFF, // device
+    0x27_1_001_001_FFF, // device_number
     // Reply data
     0x30_1_002_002_FFF, // high_first
     0x31_1_000_FFF_FFF, // mask

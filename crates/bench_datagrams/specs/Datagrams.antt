@@ -15,6 +15,8 @@ use Rattle.event.specs.declared.Instance.{Instance}
 use Rattle.event.specs.declared.Instance.the-variants.{Number as instance·Number, Absent as instance·Absent}
 use Rattle.event.specs.declared.Reading.{Reading as Event-reading}
 use Rattle.event.specs.declared.Reading.the-variants.{Accepted as event·Accepted, Refused as event·Refused}
+use Rattle.bench_datagrams.specs.declared.Read.{Read}
+use Rattle.bench_datagrams.specs.declared.Read.the-variants.{Reply as a·Reply, Code as a·Code, Event as an·Event, Kind as a·Kind}
 
 -- "`type TT sequence N n N`"
 abbrev pub replyTexts : Reply-reading → List (List ℕ)
@@ -62,3 +64,10 @@ wroteTexts (wrote·Refused k) = decimalOf k ∷ []
 -- "Where a buffer is lent, its bytes before and after the call stand at the end: `before B B .. after B B ..`, on a refusal too"
 abbrev pub bufferTexts : Wrote → List ℕ → List ℕ → List (List ℕ)
 bufferTexts w before after = wroteTexts w ++ (text " before" ∷ (runOf before ++ (text " after" ∷ runOf after)))
+
+-- the answer of a call that reads: as above, an event's type by itself behind a 0
+abbrev pub readTexts : Read → List (List ℕ)
+readTexts (a·Reply d) = replyTexts d
+readTexts (a·Code c) = codeTexts c
+readTexts (an·Event d) = eventTexts d
+readTexts (a·Kind t) = text "0" ∷ kindTexts t

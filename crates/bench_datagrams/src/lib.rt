@@ -1,14 +1,22 @@
 // What replies and events are read as, and what a writer did, as the bench's answers. docs/BENCH.md, "Datagrams". It leans on
 // crate bench_say, and on crates frame, reply and event for what is said.
 ghost use Rattle.bench_say.specs.Said.{PutsAll};
-ghost use Rattle.bench_datagrams.specs.Datagrams.{replyTexts, codeTexts, kindTexts, instanceTexts, eventTexts, wroteTexts, bufferTexts};
+ghost use Rattle.bench_datagrams.specs.Datagrams.{replyTexts, codeTexts, kindTexts, instanceTexts, eventTexts, wroteTexts, bufferTexts, readTexts};
 use event::EventType;
 use event::Instance;
 use frame::Wrote;
 use reply::Code;
 
+// What a call that reads a reply, an event or a part of one answers.
+pub enum Read {
+    Reply(reply::Reading),
+    Code(Code),
+    Event(event::Reading),
+    Kind(EventType),
+}
+
 // What reading a reply datagram answers.
-pub fn reply(out: &mut [u8], at: usize, d: reply::Reading) -> usize
+fn reply(out: &mut [u8], at: usize, d: reply::Reading) -> usize
     ensures { λ r. ⌜ PutsAll (replyTexts d) (now (out .entry)) at r (now (out .exit)) ⌝ }
 {
     match d {
@@ -22,7 +30,7 @@ pub fn reply(out: &mut [u8], at: usize, d: reply::Reading) -> usize
 }
 
 // The error code of a reply.
-pub fn code(out: &mut [u8], at: usize, c: Code) -> usize
+fn code(out: &mut [u8], at: usize, c: Code) -> usize
     ensures { λ r. ⌜ PutsAll (codeTexts c) (now (out .entry)) at r (now (out .exit)) ⌝ }
 {
     match c {
@@ -37,7 +45,7 @@ pub fn code(out: &mut [u8], at: usize, c: Code) -> usize
 }
 
 // An event's type: its number, and its name.
-pub fn kind(out: &mut [u8], at: usize, t: EventType) -> usize
+fn kind(out: &mut [u8], at: usize, t: EventType) -> usize
     ensures { λ r. ⌜ PutsAll (kindTexts t) (now (out .entry)) at r (now (out .exit)) ⌝ }
 {
     match t {
@@ -68,7 +76,7 @@ fn instance(out: &mut [u8], at: usize, i: Instance) -> usize
 }
 
 // What reading an event datagram answers.
-pub fn event(out: &mut [u8], at: usize, d: event::Reading) -> usize
+fn event(out: &mut [u8], at: usize, d: event::Reading) -> usize
     ensures { λ r. ⌜ PutsAll (eventTexts d) (now (out .entry)) at r (now (out .exit)) ⌝ }
 {
     match d {
@@ -103,4 +111,19 @@ pub fn wrote(out: &mut [u8], at: usize, w: Wrote, before: &[u8], after: &[u8]) -
     let e = count(out, at, w);
     let f = bench_say::run(out, e, b" before", before);
     bench_say::run(out, f, b" after", after)
+}
+
+// The answer of a call that reads.
+pub fn say(out: &mut [u8], at: usize, x: Read) -> usize
+    ensures { λ r. ⌜ PutsAll (readTexts x) (now (out .entry)) at r (now (out .exit)) ⌝ }
+{
+    match x {
+        Read::Reply(d) => reply(out, at, d),
+        Read::Code(c) => code(out, at, c),
+        Read::Event(d) => event(out, at, d),
+        Read::Kind(t) => {
+            let e = bench_say::word(out, at, b"0");
+            kind(out, e, t)
+        }
+    }
 }

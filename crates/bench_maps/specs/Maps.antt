@@ -15,6 +15,8 @@ use Rattle.filters.specs.declared.Listed.{Listed}
 use Rattle.filters.specs.declared.Listed.the-variants.{Filters, Refused as filters·Refused}
 use Rattle.filters.specs.declared.Found.{Found}
 use Rattle.filters.specs.declared.Found.the-variants.{Entry, Refused as entry·Refused}
+use Rattle.bench_maps.specs.declared.Data.{Data}
+use Rattle.bench_maps.specs.declared.Data.the-variants.{Number, Bits16, Bits32, Bits64, Count, Lowest as a·Lowest, Filters as a·Filters, Filter as a·Filter}
 
 -- "`bits N`"
 abbrev pub texts16 : Map16 → List (List ℕ)
@@ -44,3 +46,14 @@ abbrev pub entryTexts : Found → List (List ℕ)
 entryTexts (Entry f) =
     text "0 address " ∷ decimalOf (f .address) ∷ text " instance " ∷ decimalOf (f .instance) ∷ text " mask " ∷ decimalOf (f .mask) ∷ []
 entryTexts (entry·Refused k) = decimalOf k ∷ []
+
+-- the answer of a call: `number N`, `count N`, or as above
+abbrev pub dataTexts : Data → List (List ℕ)
+dataTexts (Number n) = text "0 number " ∷ decimalOf n ∷ []
+dataTexts (Bits16 m) = texts16 m
+dataTexts (Bits32 m) = texts32 m
+dataTexts (Bits64 m) = texts64 m
+dataTexts (Count n) = text "0 count " ∷ decimalOf n ∷ []
+dataTexts (a·Lowest l) = lowestTexts l
+dataTexts (a·Filters f) = filtersTexts f
+dataTexts (a·Filter f) = entryTexts f

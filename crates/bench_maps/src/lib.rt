@@ -1,7 +1,7 @@
 // Reply data as the bench's answers. docs/BENCH.md, "Reply data". It leans on crate bench_say, and on crates maps and filters
 // for what is said.
 ghost use Rattle.bench_say.specs.Said.{PutsAll};
-ghost use Rattle.bench_maps.specs.Maps.{texts16, texts32, texts64, lowestTexts, filtersTexts, entryTexts};
+ghost use Rattle.bench_maps.specs.Maps.{texts16, texts32, texts64, lowestTexts, filtersTexts, entryTexts, dataTexts};
 use filters::Found;
 use filters::Listed;
 use maps::Lowest;
@@ -9,8 +9,20 @@ use maps::Map16;
 use maps::Map32;
 use maps::Map64;
 
+// What a call of this family answers.
+pub enum Data {
+    Number(u16),
+    Bits16(Map16),
+    Bits32(Map32),
+    Bits64(Map64),
+    Count(u32),
+    Lowest(Lowest),
+    Filters(Listed),
+    Filter(Found),
+}
+
 // A map as one number, of each width.
-pub fn bits16(out: &mut [u8], at: usize, m: Map16) -> usize
+fn bits16(out: &mut [u8], at: usize, m: Map16) -> usize
     ensures { λ r. ⌜ PutsAll (texts16 m) (now (out .entry)) at r (now (out .exit)) ⌝ }
 {
     match m {
@@ -19,7 +31,7 @@ pub fn bits16(out: &mut [u8], at: usize, m: Map16) -> usize
     }
 }
 
-pub fn bits32(out: &mut [u8], at: usize, m: Map32) -> usize
+fn bits32(out: &mut [u8], at: usize, m: Map32) -> usize
     ensures { λ r. ⌜ PutsAll (texts32 m) (now (out .entry)) at r (now (out .exit)) ⌝ }
 {
     match m {
@@ -28,7 +40,7 @@ pub fn bits32(out: &mut [u8], at: usize, m: Map32) -> usize
     }
 }
 
-pub fn bits64(out: &mut [u8], at: usize, m: Map64) -> usize
+fn bits64(out: &mut [u8], at: usize, m: Map64) -> usize
     ensures { λ r. ⌜ PutsAll (texts64 m) (now (out .entry)) at r (now (out .exit)) ⌝ }
 {
     match m {
@@ -38,7 +50,7 @@ pub fn bits64(out: &mut [u8], at: usize, m: Map64) -> usize
 }
 
 // The lowest bit of a map.
-pub fn lowest(out: &mut [u8], at: usize, l: Lowest) -> usize
+fn lowest(out: &mut [u8], at: usize, l: Lowest) -> usize
     ensures { λ r. ⌜ PutsAll (lowestTexts l) (now (out .entry)) at r (now (out .exit)) ⌝ }
 {
     match l {
@@ -48,7 +60,7 @@ pub fn lowest(out: &mut [u8], at: usize, l: Lowest) -> usize
 }
 
 // The filters of a reply.
-pub fn filters(out: &mut [u8], at: usize, h: Listed) -> usize
+fn filters(out: &mut [u8], at: usize, h: Listed) -> usize
     ensures { λ r. ⌜ PutsAll (filtersTexts h) (now (out .entry)) at r (now (out .exit)) ⌝ }
 {
     match h {
@@ -61,7 +73,7 @@ pub fn filters(out: &mut [u8], at: usize, h: Listed) -> usize
 }
 
 // One entry.
-pub fn entry(out: &mut [u8], at: usize, f: Found) -> usize
+fn entry(out: &mut [u8], at: usize, f: Found) -> usize
     ensures { λ r. ⌜ PutsAll (entryTexts f) (now (out .entry)) at r (now (out .exit)) ⌝ }
 {
     match f {
@@ -71,5 +83,21 @@ pub fn entry(out: &mut [u8], at: usize, f: Found) -> usize
             bench_say::middle(out, g, b" mask ", n.mask)
         }
         Found::Refused(k) => bench_say::refusal(out, at, k),
+    }
+}
+
+// The answer of a call.
+pub fn say(out: &mut [u8], at: usize, d: Data) -> usize
+    ensures { λ r. ⌜ PutsAll (dataTexts d) (now (out .entry)) at r (now (out .exit)) ⌝ }
+{
+    match d {
+        Data::Number(n) => bench_say::middle(out, at, b"0 number ", n),
+        Data::Bits16(m) => bits16(out, at, m),
+        Data::Bits32(m) => bits32(out, at, m),
+        Data::Bits64(m) => bits64(out, at, m),
+        Data::Count(n) => bench_say::wide(out, at, b"0 count ", n),
+        Data::Lowest(l) => lowest(out, at, l),
+        Data::Filters(f) => filters(out, at, f),
+        Data::Filter(f) => entry(out, at, f),
     }
 }

@@ -2,7 +2,7 @@
 use Prim.Native.Nat.{ℕ}
 use mathlib.Core.Bool.{Bool, true, false}
 use mathlib.Core.List.{List, [], _∷_}
-use Rattle.text.specs.Text.{decimalOf}
+use Rattle.text.specs.Text.{decimalOf, hexOf}
 use Rattle.bench_say.specs.Said.{text}
 use Rattle.command.specs.declared.Rule.{Rule}
 use Rattle.command.specs.declared.Rule.the-variants.{Group, Emit, Bare, Timers, GroupScene, Channel, Filter, Query, Gear, Inhibit, Scene, Level, Lights, Address, Status}
@@ -18,6 +18,8 @@ use Rattle.target.specs.declared.Numbered.{Numbered}
 use Rattle.target.specs.declared.Numbered.the-variants.{Own, Refused as number·Refused}
 use Rattle.bench_parts.specs.declared.Fit.{Fit}
 use Rattle.bench_parts.specs.declared.Fit.the-variants.{Fits, Outside, NoRule}
+use Rattle.bench_parts.specs.declared.Part.{Part}
+use Rattle.bench_parts.specs.declared.Part.the-variants.{Sum, Known, Shape as a·Shape, Fit as a·Fit, Name as a·Name, OnLine as a·OnLine, Device as a·Device, Number as a·Number}
 
 -- "`known` or `unknown`"
 abbrev pub knownTexts : Bool → List (List ℕ)
@@ -72,3 +74,14 @@ deviceTexts (device·Refused k) = decimalOf k ∷ []
 abbrev pub numberTexts : Numbered → List (List ℕ)
 numberTexts (Own n) = text "0 number " ∷ decimalOf n ∷ []
 numberTexts (number·Refused k) = decimalOf k ∷ []
+
+-- the answer of a call: `sum NN`, or as above
+abbrev pub partTexts : Part → List (List ℕ)
+partTexts (Sum b) = text "0 sum " ∷ hexOf b ∷ []
+partTexts (Known k) = knownTexts k
+partTexts (a·Shape s) = shapeTexts s
+partTexts (a·Fit f) = fitTexts f
+partTexts (a·Name n) = nameTexts n
+partTexts (a·OnLine t) = lineTexts t
+partTexts (a·Device d) = deviceTexts d
+partTexts (a·Number n) = numberTexts n

@@ -1,7 +1,7 @@
 // Parts of datagrams as the bench's answers. docs/BENCH.md, "Parts of datagrams". It leans on crate bench_say, and on crates
 // command, error and target for what is said.
 ghost use Rattle.bench_say.specs.Said.{PutsAll};
-ghost use Rattle.bench_parts.specs.Parts.{knownTexts, ruleTexts, shapeTexts, fitTexts, nameTexts, lineTexts, deviceTexts, numberTexts};
+ghost use Rattle.bench_parts.specs.Parts.{knownTexts, ruleTexts, shapeTexts, fitTexts, nameTexts, lineTexts, deviceTexts, numberTexts, partTexts};
 use command::Rule;
 use command::Shape;
 use error::Name;
@@ -16,8 +16,20 @@ pub enum Fit {
     NoRule,
 }
 
+// What a call of this family answers.
+pub enum Part {
+    Sum(u8),
+    Known(bool),
+    Shape(Shape),
+    Fit(Fit),
+    Name(Name),
+    OnLine(OnLine),
+    Device(Addressed),
+    Number(Numbered),
+}
+
 // Whether a command is known.
-pub fn known(out: &mut [u8], at: usize, yes: bool) -> usize
+fn known(out: &mut [u8], at: usize, yes: bool) -> usize
     ensures { λ r. ⌜ PutsAll (knownTexts yes) (now (out .entry)) at r (now (out .exit)) ⌝ }
 {
     if yes {
@@ -50,7 +62,7 @@ fn rule(out: &mut [u8], at: usize, k: Rule) -> usize
 }
 
 // The shape of a command, and its rule.
-pub fn shape(out: &mut [u8], at: usize, s: Shape) -> usize
+fn shape(out: &mut [u8], at: usize, s: Shape) -> usize
     ensures { λ r. ⌜ PutsAll (shapeTexts s) (now (out .entry)) at r (now (out .exit)) ⌝ }
 {
     match s {
@@ -61,7 +73,7 @@ pub fn shape(out: &mut [u8], at: usize, s: Shape) -> usize
 }
 
 // Whether arguments fit.
-pub fn fits(out: &mut [u8], at: usize, f: Fit) -> usize
+fn fits(out: &mut [u8], at: usize, f: Fit) -> usize
     ensures { λ r. ⌜ PutsAll (fitTexts f) (now (out .entry)) at r (now (out .exit)) ⌝ }
 {
     match f {
@@ -72,7 +84,7 @@ pub fn fits(out: &mut [u8], at: usize, f: Fit) -> usize
 }
 
 // The number of an error code's name.
-pub fn name(out: &mut [u8], at: usize, n: Name) -> usize
+fn name(out: &mut [u8], at: usize, n: Name) -> usize
     ensures { λ r. ⌜ PutsAll (nameTexts n) (now (out .entry)) at r (now (out .exit)) ⌝ }
 {
     match n {
@@ -82,7 +94,7 @@ pub fn name(out: &mut [u8], at: usize, n: Name) -> usize
 }
 
 // A group as a target on the line.
-pub fn on_line(out: &mut [u8], at: usize, t: OnLine) -> usize
+fn on_line(out: &mut [u8], at: usize, t: OnLine) -> usize
     ensures { λ r. ⌜ PutsAll (lineTexts t) (now (out .entry)) at r (now (out .exit)) ⌝ }
 {
     match t {
@@ -92,7 +104,7 @@ pub fn on_line(out: &mut [u8], at: usize, t: OnLine) -> usize
 }
 
 // The address of a control device, by its own number.
-pub fn device(out: &mut [u8], at: usize, d: Addressed) -> usize
+fn device(out: &mut [u8], at: usize, d: Addressed) -> usize
     ensures { λ r. ⌜ PutsAll (deviceTexts d) (now (out .entry)) at r (now (out .exit)) ⌝ }
 {
     match d {
@@ -102,11 +114,27 @@ pub fn device(out: &mut [u8], at: usize, d: Addressed) -> usize
 }
 
 // A control device's own number, by its address.
-pub fn number(out: &mut [u8], at: usize, n: Numbered) -> usize
+fn number(out: &mut [u8], at: usize, n: Numbered) -> usize
     ensures { λ r. ⌜ PutsAll (numberTexts n) (now (out .entry)) at r (now (out .exit)) ⌝ }
 {
     match n {
         Numbered::Own(own) => bench_say::small(out, at, b"0 number ", own),
         Numbered::Refused(k) => bench_say::refusal(out, at, k),
+    }
+}
+
+// The answer of a call.
+pub fn say(out: &mut [u8], at: usize, p: Part) -> usize
+    ensures { λ r. ⌜ PutsAll (partTexts p) (now (out .entry)) at r (now (out .exit)) ⌝ }
+{
+    match p {
+        Part::Sum(b) => bench_say::byte(out, at, b"0 sum ", b),
+        Part::Known(yes) => known(out, at, yes),
+        Part::Shape(s) => shape(out, at, s),
+        Part::Fit(f) => fits(out, at, f),
+        Part::Name(n) => name(out, at, n),
+        Part::OnLine(t) => on_line(out, at, t),
+        Part::Device(d) => device(out, at, d),
+        Part::Number(n) => number(out, at, n),
     }
 }

@@ -12,6 +12,8 @@ use Rattle.request.specs.declared.Contents.the-variants.{Basic, Unicast}
 use Rattle.request.specs.declared.Request.{Request}
 use Rattle.request.specs.declared.Reading.{Reading}
 use Rattle.request.specs.declared.Reading.the-variants.{Accepted, Refused}
+use Rattle.bench_requests.specs.declared.Asked.{Asked}
+use Rattle.bench_requests.specs.declared.Asked.the-variants.{Reading as a·Reading, Target as a·Target}
 
 -- LIGHTS
 abbrev pub lightsTexts : Target → List (List ℕ)
@@ -51,3 +53,8 @@ requestTexts q = text "0 sequence " ∷ decimalOf (q .sequence) ∷ text " comma
 abbrev pub readingTexts : Reading → List (List ℕ)
 readingTexts (Accepted q) = requestTexts q
 readingTexts (Refused k) = decimalOf k ∷ []
+
+-- the answer of a call: a reading, or LIGHTS behind a 0
+abbrev pub askedTexts : Asked → List (List ℕ)
+askedTexts (a·Reading r) = readingTexts r
+askedTexts (a·Target l) = text "0" ∷ lightsTexts l

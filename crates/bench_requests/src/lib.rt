@@ -1,15 +1,21 @@
 // A request's reading as the bench's answer. docs/BENCH.md, "Datagrams". It leans on crate bench_say, and on crates request,
 // meaning and target for what is said.
 ghost use Rattle.bench_say.specs.Said.{PutsAll};
-ghost use Rattle.bench_requests.specs.Requests.{lightsTexts, meaningTexts, contentsTexts, requestTexts, readingTexts};
+ghost use Rattle.bench_requests.specs.Requests.{lightsTexts, meaningTexts, contentsTexts, requestTexts, readingTexts, askedTexts};
 use meaning::Meaning;
 use request::Contents;
 use request::Reading;
 use request::Request;
 use target::Target;
 
+// What a call of this family answers.
+pub enum Asked {
+    Reading(Reading),
+    Target(Target),
+}
+
 // What a target names: what is lit, or asked about.
-pub fn lights(out: &mut [u8], at: usize, l: Target) -> usize
+fn lights(out: &mut [u8], at: usize, l: Target) -> usize
     ensures { λ r. ⌜ PutsAll (lightsTexts l) (now (out .entry)) at r (now (out .exit)) ⌝ }
 {
     match l {
@@ -21,7 +27,7 @@ pub fn lights(out: &mut [u8], at: usize, l: Target) -> usize
 }
 
 // What the arguments of a basic request mean.
-pub fn meaning(out: &mut [u8], at: usize, m: Meaning) -> usize
+fn meaning(out: &mut [u8], at: usize, m: Meaning) -> usize
     ensures { λ r. ⌜ PutsAll (meaningTexts m) (now (out .entry)) at r (now (out .exit)) ⌝ }
 {
     match m {
@@ -111,11 +117,24 @@ fn accepted(out: &mut [u8], at: usize, q: Request) -> usize
 }
 
 // What reading a request datagram answers.
-pub fn reading(out: &mut [u8], at: usize, r: Reading) -> usize
+fn reading(out: &mut [u8], at: usize, r: Reading) -> usize
     ensures { λ e. ⌜ PutsAll (readingTexts r) (now (out .entry)) at e (now (out .exit)) ⌝ }
 {
     match r {
         Reading::Accepted(q) => accepted(out, at, q),
         Reading::Refused(k) => bench_say::refusal(out, at, k),
+    }
+}
+
+// The answer of a call.
+pub fn say(out: &mut [u8], at: usize, a: Asked) -> usize
+    ensures { λ e. ⌜ PutsAll (askedTexts a) (now (out .entry)) at e (now (out .exit)) ⌝ }
+{
+    match a {
+        Asked::Reading(r) => reading(out, at, r),
+        Asked::Target(l) => {
+            let e = bench_say::word(out, at, b"0");
+            lights(out, e, l)
+        }
     }
 }

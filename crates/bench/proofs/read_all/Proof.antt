@@ -6,10 +6,13 @@ use Rattle.bench.proofs.read_all.Statement.{statement}
 use Rattle.bench.proofs.read_all.Tie as tie
 
 abbrev Inv-loop : tie.InvT-loop
-Inv-loop input₀ line₀ bytes₀ buffer₀ out₀ r₀ left₀ input line bytes buffer out r left = (left < 2 ^ 64) × (length input ≡ length input₀) × (length line ≡ length line₀) × (length bytes ≡ length bytes₀) × (length buffer ≡ length buffer₀) × (length out ≡ length out₀)
+Inv-loop input₀ line₀ out₀ next₀ left₀ input line out next left = (left < 2 ^ 64) × (length input ≡ length input₀) × (length line ≡ length line₀) × (length out ≡ length out₀)
 
 abbrev μ-loop : tie.MeasureT-loop
-μ-loop input₀ line₀ bytes₀ buffer₀ out₀ r₀ left₀ input line bytes buffer out r left = left
+μ-loop input₀ line₀ out₀ next₀ left₀ input line out next left = left
+
+begin-requires : tie.Need-begin-requires Inv-loop μ-loop
+begin-requires c κs = search needs
 
 fresh-requires : tie.Need-fresh-requires Inv-loop μ-loop
 fresh-requires c κs = search needs
@@ -17,8 +20,8 @@ fresh-requires c κs = search needs
 loop-holds : tie.Need-loop-holds Inv-loop μ-loop
 loop-holds c = search needs
 
-read-once-requires : tie.Need-read-once-requires Inv-loop μ-loop
-read-once-requires c κs = search needs
+turn-requires : tie.Need-turn-requires Inv-loop μ-loop
+turn-requires c κs = search needs
 
 same-length : tie.Need-same-length Inv-loop μ-loop
 same-length c = search needs
@@ -28,12 +31,6 @@ same-length-2 c = search needs
 
 same-length-3 : tie.Need-same-length-3 Inv-loop μ-loop
 same-length-3 c = search needs
-
-same-length-4 : tie.Need-same-length-4 Inv-loop μ-loop
-same-length-4 c = search needs
-
-same-length-5 : tie.Need-same-length-5 Inv-loop μ-loop
-same-length-5 c = search needs
 
 returns : tie.Need-returns Inv-loop μ-loop
 returns c = search needs
@@ -47,20 +44,14 @@ loop-less c = search needs
 loop-again : tie.Need-loop-again Inv-loop μ-loop
 loop-again c = search needs
 
+same-length-4 : tie.Need-same-length-4 Inv-loop μ-loop
+same-length-4 c = search needs
+
+same-length-5 : tie.Need-same-length-5 Inv-loop μ-loop
+same-length-5 c = search needs
+
 same-length-6 : tie.Need-same-length-6 Inv-loop μ-loop
 same-length-6 c = search needs
-
-same-length-7 : tie.Need-same-length-7 Inv-loop μ-loop
-same-length-7 c = search needs
-
-same-length-8 : tie.Need-same-length-8 Inv-loop μ-loop
-same-length-8 c = search needs
-
-same-length-9 : tie.Need-same-length-9 Inv-loop μ-loop
-same-length-9 c = search needs
-
-same-length-10 : tie.Need-same-length-10 Inv-loop μ-loop
-same-length-10 c = search needs
 
 returns-2 : tie.Need-returns-2 Inv-loop μ-loop
 returns-2 c = search needs
@@ -71,21 +62,18 @@ read-all-spec =
     (tie.spec
     Inv-loop
     μ-loop
+    begin-requires
     fresh-requires
     loop-holds
-    read-once-requires
+    turn-requires
     same-length
     same-length-2
     same-length-3
-    same-length-4
-    same-length-5
     returns
     sub-left
     loop-less
     loop-again
+    same-length-4
+    same-length-5
     same-length-6
-    same-length-7
-    same-length-8
-    same-length-9
-    same-length-10
     returns-2)

@@ -1,5 +1,5 @@
-use Rattle.refusal.specs.Answer.{told}
 use Rattle.event.specs.Reading.{said}
+use Rattle.refusal.specs.Answer.{told}
 use borrow.Author.Needs.{needs}
 use Rattle.wickanchor.proofs.wick_event.Statement.{statement}
 use Rattle.wickanchor.proofs.wick_event.Tie as tie

@@ -1,4 +1,4 @@
-use Rattle.wickanchor.specs.Outside.{written-out}
+use Rattle.wickanchor.specs.Handed.{written-out}
 use borrow.Author.Needs.{needs}
 use Rattle.wickanchor.proofs.wick_write_reply.Statement.{statement}
 use Rattle.wickanchor.proofs.wick_write_reply.Tie as tie

@@ -4,11 +4,14 @@ use borrow.Author.Needs.{needs}
 use Rattle.bench.proofs.calls.wrote.Statement.{statement}
 use Rattle.bench.proofs.calls.wrote.Tie as tie
 
+buffer-requires : tie.Need-buffer-requires
+buffer-requires c κs = search needs
+
+slice-aggregate-buffer : tie.Need-slice-aggregate-buffer
+slice-aggregate-buffer c = search needs
+
 word-requires : tie.Need-word-requires
 word-requires c κs = search needs
-
-same-length : tie.Need-same-length
-same-length c = search needs
 
 returns : tie.Need-returns
 returns c = search needs
@@ -28,11 +31,8 @@ part-requires c κs = search needs
 wrote-requires : tie.Need-wrote-requires
 wrote-requires c κs = search needs
 
-same-length-2 : tie.Need-same-length-2
-same-length-2 c = search needs
-
-same-length-3 : tie.Need-same-length-3
-same-length-3 c = search needs
+same-length : tie.Need-same-length
+same-length c = search needs
 
 returns-2 : tie.Need-returns-2
 returns-2 c = search needs
@@ -41,14 +41,14 @@ pub wrote-spec : {M : Type 1} → statement M
 wrote-spec =
     tie.close
     (tie.spec
+    buffer-requires
+    slice-aggregate-buffer
     word-requires
-    same-length
     returns
     slice-relend-prefix-write
     slice-aggregate-write
     write-requires
     part-requires
     wrote-requires
-    same-length-2
-    same-length-3
+    same-length
     returns-2)

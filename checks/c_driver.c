@@ -1,0 +1,424 @@
+/* Answers calls of docs/BENCH.md by the functions of include/wickanchor.h: a line of standard input, a line of standard output. Only calls
+   that are whole are handed to it (checks/c sees to that). With any argument it lists the calls that it knows. */
+#include <stdio.h>
+#include <stdlib.h>
+#include <string.h>
+#include "wickanchor.h"
+#include "wickanchor_names.h"
+
+struct group {
+    uint8_t *bytes;
+    uint64_t n;
+};
+
+static struct group g[3];
+static struct wick_book book;
+static struct wick_reader readers[2];
+
+/* Answers are made of these */
+static void hex(const uint8_t *bytes, uint64_t n) {
+    for (uint64_t i = 0; i < n; i++) printf(" %02X", bytes[i]);
+}
+
+static void number(const char *word, uint64_t n) { printf(" %s %llu", word, (unsigned long long)n); }
+
+static uint64_t high_first(const uint8_t *bytes, int n) {
+    uint64_t x = 0;
+    for (int i = 0; i < n; i++) x = x * 256 + bytes[i];
+    return x;
+}
+
+static void numbered(const char *word, struct wick_number r) {
+    printf("%u", r.refusal);
+    if (!r.refusal) number(word, r.number);
+    else if (r.number) printf(" NOT 0");
+}
+
+static void aim(struct wick_aim a) {
+    static const char *const words[] = {" NONE", " gear", " group", " broadcast", " no target"};
+    printf("%s", words[a.kind]);
+    if (a.kind == WICK_AIM_GEAR || a.kind == WICK_AIM_GROUP) printf(" %u", a.number);
+}
+
+/* A lent buffer: a copy of the last group, in memory of its own size, NULL where it has none */
+static uint8_t *lent(struct group b) {
+    uint8_t *out = b.n ? malloc(b.n) : NULL;
+    if (b.n) memcpy(out, b.bytes, b.n);
+    return out;
+}
+
+static void wrote(struct wick_wrote w, struct group b, uint8_t *out) {
+    printf("%u", w.refusal);
+    if (!w.refusal) number("count", w.count);
+    else if (w.count) printf(" NOT 0");
+    printf(" before");
+    hex(b.bytes, b.n);
+    printf(" after");
+    hex(out, b.n);
+    free(out);
+}
+
+static void meaning(struct wick_meaning m) {
+    switch (m.kind) {
+    case WICK_MEANS_NOTHING: printf(" nothing"); break;
+    case WICK_MEANS_GROUP: number("group", m.first); break;
+    case WICK_MEANS_EMIT: number("emit", m.first); break;
+    case WICK_MEANS_TIMERS: number("device", m.first); number("instance", m.second); break;
+    case WICK_MEANS_GROUP_SCENE: number("group", m.first); number("scene", m.second); break;
+    case WICK_MEANS_CHANNEL: number("universe", m.first); number("channel", m.wide); break;
+    case WICK_MEANS_FILTER: number("address", m.first); number("instance", m.second); number("mask", m.wide); break;
+    case WICK_MEANS_QUERY: number("address", m.first); number("start", m.second); number("instance", m.third); break;
+    case WICK_MEANS_GEAR: number("gear", m.first); break;
+    case WICK_MEANS_INHIBIT: aim(m.aim); number("seconds", m.wide); break;
+    case WICK_MEANS_SCENE: aim(m.aim); number("scene", m.first); break;
+    case WICK_MEANS_LEVEL: aim(m.aim); number("level", m.first); break;
+    case WICK_MEANS_LIT: aim(m.aim); break;
+    case WICK_MEANS_TARGET: aim(m.aim); break;
+    default: printf(" NO MEANING");
+    }
+}
+
+/* Whether a struct is 0 behind its first byte, the refusal. Only for structs without gaps. */
+static void cleared(const void *r, size_t size) {
+    for (size_t i = 1; i < size; i++)
+        if (((const uint8_t *)r)[i]) printf(" NOT 0");
+}
+
+/* Datagrams */
+static void request(void) {
+    struct wick_request r = wick_request(g[0].bytes, g[0].n);
+    printf("%u", r.refusal);
+    if (r.refusal) {
+        if (r.sequence | r.command | r.a | r.b | r.c | r.d | r.port | r.meaning.kind | r.address.bytes[0]) printf(" NOT 0");
+        return;
+    }
+    number("sequence", r.sequence);
+    printf(" command %02X", r.command);
+    if (r.command == WICK_SET_TPI_EVENT_UNICAST_ADDRESS) {
+        number("port", r.port);
+        printf(" address %u %u %u %u", r.address.bytes[0], r.address.bytes[1], r.address.bytes[2], r.address.bytes[3]);
+        return;
+    }
+    printf(" arguments %02X %02X %02X %02X", r.a, r.b, r.c, r.d);
+    meaning(r.meaning);
+}
+
+static void write_basic(void) {
+    const uint8_t *b = g[0].bytes;
+    uint8_t *out = lent(g[1]);
+    wrote(wick_write_basic(b[0], b[1], b[2], b[3], b[4], b[5], out, g[1].n), g[1], out);
+}
+
+static void write_unicast(void) {
+    const uint8_t *b = g[0].bytes;
+    struct wick_address a = {{b[3], b[4], b[5], b[6]}};
+    uint8_t *out = lent(g[1]);
+    wrote(wick_write_unicast(b[0], (uint16_t)high_first(b + 1, 2), a, out, g[1].n), g[1], out);
+}
+
+static void relay(struct wick_wrote (*f)(const uint8_t *, uint64_t, uint8_t *, uint64_t)) {
+    uint8_t *out = lent(g[1]);
+    wrote(f(g[0].bytes, g[0].n, out, g[1].n), g[1], out);
+}
+
+static void relay_request(void) { relay(wick_relay_request); }
+static void relay_reply(void) { relay(wick_relay_reply); }
+static void relay_event(void) { relay(wick_relay_event); }
+
+static void reply(void) {
+    struct wick_reply r = wick_reply(g[0].bytes, g[0].n);
+    printf("%u", r.refusal);
+    if (r.refusal) {
+        if (r.kind || r.sequence || r.data_at || r.n) printf(" NOT 0");
+        return;
+    }
+    printf(" type %02X", r.kind);
+    number("sequence", r.sequence);
+    number("n", r.n);
+}
+
+static void reply_data(void) {
+    struct wick_reply r = wick_reply(g[0].bytes, g[0].n);
+    printf("0 data");
+    if (r.n) hex(g[0].bytes + r.data_at, r.n);
+}
+
+static void error_code(void) {
+    struct wick_code r = wick_error_code(g[0].bytes, g[0].n);
+    printf("%u", r.refusal);
+    if (r.refusal) {
+        cleared(&r, sizeof r);
+        return;
+    }
+    if (!r.has_code) printf(" absent");
+    else printf(" code %02X", r.code);
+    if (r.name) number("name", r.name);
+}
+
+static void write_reply(void) {
+    uint8_t *out = lent(g[2]);
+    wrote(wick_write_reply(g[0].bytes[0], g[0].bytes[1], g[1].bytes, g[1].n, out, g[2].n), g[2], out);
+}
+
+static void event(void) {
+    struct wick_event e = wick_event(g[0].bytes, g[0].n);
+    printf("%u", e.refusal);
+    if (e.refusal) {
+        if (e.kind || e.instance || e.has_instance || e.mac.bytes[0] || e.target || e.data_at || e.n) printf(" NOT 0");
+        return;
+    }
+    printf(" mac");
+    hex(e.mac.bytes, 6);
+    number("target", e.target);
+    number("type", e.kind);
+    printf(" %s", wick_event_type_name(e.kind));
+    number("n", e.n);
+    if (e.has_instance) number("instance", e.instance);
+    else printf(" instance absent");
+}
+
+static void event_data(void) {
+    struct wick_event e = wick_event(g[0].bytes, g[0].n);
+    printf("0 data");
+    if (e.n) hex(g[0].bytes + e.data_at, e.n);
+}
+
+static void write_event(void) {
+    struct wick_mac mac;
+    memcpy(mac.bytes, g[0].bytes, 6);
+    uint8_t *out = lent(g[2]);
+    wrote(wick_write_event(mac, (uint32_t)high_first(g[0].bytes + 6, 4), g[0].bytes[10], g[1].bytes, g[1].n, out, g[2].n), g[2], out);
+}
+
+static void sum(void) { printf("0 sum %02X", wick_sum(g[0].bytes, g[0].n)); }
+static void known(void) { printf(wick_known(g[0].bytes[0]) ? "0 known" : "0 unknown"); }
+
+static void event_type(void) { printf("0 type %u %s", g[0].bytes[0], wick_event_type_name(g[0].bytes[0])); }
+
+static void error_name(void) {
+    uint8_t n = wick_error_name(g[0].bytes[0]);
+    printf("0");
+    if (n) number("name", n);
+    else printf(" none");
+}
+
+/* Targets and reply data */
+static void group_target(void) { numbered("target", wick_group_target(g[0].bytes[0])); }
+static void device(void) { numbered("device", wick_device(g[0].bytes[0])); }
+static void device_number(void) { numbered("number", wick_device_number(g[0].bytes[0])); }
+
+static void lights(void) {
+    printf("0");
+    aim(wick_lights(g[0].bytes[0]));
+}
+
+static void status(void) {
+    printf("0");
+    aim(wick_status(g[0].bytes[0]));
+}
+
+static void mask(void) { numbered("bits", wick_mask(g[0].bytes, g[0].n)); }
+static void scenes(void) { numbered("bits", wick_scenes(g[0].bytes, g[0].n)); }
+static void gear(void) { numbered("bits", wick_gear(g[0].bytes, g[0].n)); }
+static void types(void) { numbered("bits", wick_types(g[0].bytes, g[0].n)); }
+
+static void count_types(void) {
+    printf("0");
+    number("count", wick_count_types((uint16_t)high_first(g[0].bytes, 2)));
+}
+
+static void count_gear(void) {
+    printf("0");
+    number("count", wick_count_gear(high_first(g[0].bytes, 8)));
+}
+
+static void lowest_type(void) { numbered("lowest", wick_lowest_type((uint16_t)high_first(g[0].bytes, 2))); }
+static void lowest_gear(void) { numbered("lowest", wick_lowest_gear(high_first(g[0].bytes, 8))); }
+
+static void filters(void) {
+    struct wick_filters r = wick_filters(g[0].bytes, g[0].n);
+    printf("%u", r.refusal);
+    if (r.refusal) {
+        if (r.mode || r.entries) printf(" NOT 0");
+        return;
+    }
+    number("mode", r.mode);
+    number("entries", r.entries);
+}
+
+static void filter(void) {
+    struct wick_filter r = wick_filter(g[1].bytes, g[1].n, high_first(g[0].bytes, 8));
+    printf("%u", r.refusal);
+    if (r.refusal) {
+        if (r.address || r.instance || r.mask) printf(" NOT 0");
+        return;
+    }
+    number("address", r.address);
+    number("instance", r.instance);
+    number("mask", r.mask);
+}
+
+/* The book */
+static void book_fresh(void) {
+    book = wick_book();
+    printf("0");
+}
+
+static void book_set(void) {
+    memset(&book, 0, sizeof book);
+    if (g[1].n) memcpy(book.asked, g[1].bytes, g[1].n);
+    book.last = g[0].bytes[0];
+    printf("0");
+}
+
+static void book_show(void) {
+    printf("0 last %u held", book.last);
+    for (int i = 0; i < 256; i++)
+        if (book.asked[i]) printf(" %02X %02X", i, book.asked[i]);
+}
+
+static void ask(void) {
+    struct wick_booked r = wick_ask(book, g[0].bytes[0]);
+    book = r.book;
+    printf("%u", r.refusal);
+    if (!r.refusal) number("number", r.answer);
+    else if (r.answer) printf(" NOT 0");
+}
+
+static void answer(void) {
+    struct wick_booked r = wick_answer(book, g[0].bytes[0]);
+    book = r.book;
+    printf("%u", r.refusal);
+    if (!r.refusal) printf(" command %02X", r.answer);
+    else if (r.answer) printf(" NOT 0");
+}
+
+/* Lines */
+static void fresh(int line) {
+    readers[line] = wick_reader();
+    printf("0");
+}
+
+static void hold(int line) {
+    memset(&readers[line], 0, sizeof readers[line]);
+    if (g[1].n) memcpy(readers[line].bytes, g[1].bytes, g[1].n);
+    readers[line].len = high_first(g[0].bytes, 8);
+    printf("0");
+}
+
+static void item(struct wick_given r) {
+    number("item", r.item);
+    number("count", r.count);
+    printf(" bytes");
+    hex(r.bytes, r.count);
+    for (uint64_t i = r.count; i < sizeof r.bytes; i++)
+        if (r.bytes[i]) printf(" NOT 0");
+}
+
+static void feed(int line) {
+    struct wick_given r = wick_feed((uint8_t)line, readers[line], g[0].bytes, g[0].n);
+    readers[line] = r.reader;
+    printf("0");
+    number("taken", r.taken);
+    if (r.has_item) item(r);
+    else printf(" nothing");
+}
+
+static void close_(int line) {
+    struct wick_given r = wick_close((uint8_t)line, readers[line]);
+    readers[line] = r.reader;
+    printf("0");
+    if (r.has_item) item(r);
+    else printf(" empty");
+}
+
+static void show(int line) {
+    uint64_t n = readers[line].len;
+    printf("0");
+    number("held", n);
+    printf(" bytes");
+    hex(readers[line].bytes, n < sizeof readers[line].bytes ? n : sizeof readers[line].bytes);
+}
+
+static void item_at(int line) {
+    struct wick_item r = wick_item_at((uint8_t)line, g[0].bytes[0], g[1].bytes, g[1].n);
+    printf("0");
+    if (r.has_item) {
+        number("item", r.item);
+        number("count", r.count);
+    } else printf(" nothing");
+}
+
+static void fresh_request(void) { fresh(WICK_REQUEST_LINE); }
+static void fresh_reply(void) { fresh(WICK_REPLY_LINE); }
+static void hold_request(void) { hold(WICK_REQUEST_LINE); }
+static void hold_reply(void) { hold(WICK_REPLY_LINE); }
+static void feed_request(void) { feed(WICK_REQUEST_LINE); }
+static void feed_reply(void) { feed(WICK_REPLY_LINE); }
+static void close_request(void) { close_(WICK_REQUEST_LINE); }
+static void close_reply(void) { close_(WICK_REPLY_LINE); }
+static void show_request(void) { show(WICK_REQUEST_LINE); }
+static void show_reply(void) { show(WICK_REPLY_LINE); }
+static void item_request(void) { item_at(WICK_REQUEST_LINE); }
+static void item_reply(void) { item_at(WICK_REPLY_LINE); }
+
+#define CALL(name) {#name, name}
+static const struct {
+    const char *name;
+    void (*call)(void);
+} calls[] = {
+    CALL(request), CALL(write_basic), CALL(write_unicast), CALL(relay_request), CALL(relay_reply), CALL(relay_event),
+    CALL(reply), CALL(reply_data), CALL(error_code), CALL(write_reply), CALL(event), CALL(event_data), CALL(write_event),
+    CALL(sum), CALL(known), CALL(error_name), CALL(event_type), CALL(group_target), CALL(device), CALL(device_number),
+    CALL(lights), CALL(status), CALL(mask), CALL(scenes), CALL(gear), CALL(types), CALL(count_types), CALL(count_gear),
+    CALL(lowest_type), CALL(lowest_gear), CALL(filters), CALL(filter), CALL(book_fresh), CALL(book_set), CALL(book_show), CALL(ask), CALL(answer),
+    CALL(fresh_request), CALL(fresh_reply), CALL(hold_request), CALL(hold_reply), CALL(feed_request), CALL(feed_reply),
+    CALL(close_request), CALL(close_reply), CALL(show_request), CALL(show_reply), CALL(item_request), CALL(item_reply),
+};
+#define CALLS (sizeof calls / sizeof *calls)
+
+/* The groups of a line, each in memory of its own size, so that a tool that watches memory sees a byte too many */
+static void groups(char *words) {
+    static uint8_t bytes[4096];
+    uint64_t n = 0;
+    int k = 0;
+    for (char *w = strtok(words, " "); ; w = strtok(NULL, " ")) {
+        if (w && *w != '/') {
+            bytes[n++] = (uint8_t)strtoul(w, NULL, 16);
+            continue;
+        }
+        g[k].n = n;
+        g[k].bytes = n ? malloc(n) : NULL;
+        if (n) memcpy(g[k].bytes, bytes, n);
+        n = 0;
+        k++;
+        if (!w || k == 3) return;
+    }
+}
+
+int main(int argc, char **argv) {
+    static char line[8192];
+    (void)argv;
+    if (argc > 1) {
+        for (size_t i = 0; i < CALLS; i++) puts(calls[i].name);
+        return 0;
+    }
+    book = wick_book();
+    readers[0] = readers[1] = wick_reader();
+    while (fgets(line, sizeof line, stdin)) {
+        line[strcspn(line, "\n")] = 0;
+        size_t begin = strspn(line, " ");
+        size_t end = begin + strcspn(line + begin, " ");
+        char more = line[end];
+        line[end] = 0;
+        memset(g, 0, sizeof g);
+        groups(more ? line + end + 1 : line + end);
+        size_t i = 0;
+        while (i < CALLS && strcmp(calls[i].name, line + begin)) i++;
+        if (i < CALLS) calls[i].call();
+        else printf("NO SUCH CALL");
+        putchar('\n');
+        for (int k = 0; k < 3; k++) free(g[k].bytes);
+    }
+    return 0;
+}

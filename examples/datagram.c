@@ -1,0 +1,33 @@
+/* Says what a datagram is. Its bytes are the arguments, in hexadecimal:  datagram A3 07 01 B1 14 */
+#include <stdio.h>
+#include <stdlib.h>
+#include "wickanchor_names.h"
+
+static void bytes(const uint8_t *data, uint64_t n) {
+    for (uint64_t i = 0; i < n; i++) printf(" %02X", data[i]);
+}
+
+int main(int argc, char **argv) {
+    uint8_t d[256];
+    uint64_t n = 0;
+    for (int i = 1; i < argc && n < sizeof d; i++) d[n++] = (uint8_t)strtoul(argv[i], NULL, 16);
+
+    struct wick_request q = wick_request(d, n);
+    struct wick_reply r = wick_reply(d, n);
+    struct wick_event v = wick_event(d, n);
+    if (!q.refusal) {
+        printf("request %u: %s, arguments %u %u %u %u", q.sequence, wick_command_name(q.command), q.a, q.b, q.c, q.d);
+    } else if (!r.refusal) {
+        struct wick_code e = wick_error_code(d, n);
+        printf("reply %u: %s, data", r.sequence, wick_reply_type_name(r.kind));
+        bytes(d + r.data_at, r.n);
+        if (e.has_code) printf(", error %s", wick_error_code_name(e.code));
+    } else if (!v.refusal) {
+        printf("event: %s of target %u, data", wick_event_type_name(v.kind), (unsigned)v.target);
+        bytes(d + v.data_at, v.n);
+    } else {
+        printf("refused: %u as a request, %u as a reply, %u as an event", q.refusal, r.refusal, v.refusal);
+    }
+    printf("\n");
+    return q.refusal && r.refusal && v.refusal;
+}
