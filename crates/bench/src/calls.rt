@@ -1,5 +1,6 @@
 // The calls of the bench, each an arm by its number in the table of crate bench_calls: its bytes are handed to the codec, and
 // its answer is said by the crate of its family. docs/BENCH.md, in its order.
+use bench_book::Page;
 use bench_calls::Call;
 use bench_calls::Called;
 use bench_datagrams::Read;
@@ -35,7 +36,7 @@ pub struct Turn {
 
 struct BookTurn {
     book: Book,
-    at: usize,
+    page: Page,
 }
 
 struct LineTurn {
@@ -198,16 +199,16 @@ fn plain(n: usize, s: &[u8], t: &[u8], u: &[u8], out: &mut [u8], at: usize) -> u
     }
 }
 
-fn page(n: usize, b: Book, s: &[u8], t: &[u8], out: &mut [u8], at: usize) -> BookTurn {
+fn page(n: usize, b: Book, s: &[u8], t: &[u8]) -> BookTurn {
     let first = bench_words::byte_at(s, 0);
     match n {
         0x40 => BookTurn {
             book: book::fresh(),
-            at: lent::byte(out, at, b'0'),
+            page: Page::Done,
         },
         0x41 => BookTurn {
             book: bench_book::handed(first, t),
-            at: lent::byte(out, at, b'0'),
+            page: Page::Done,
         },
         0x42 => {
             let a = book::ask(b, first);
@@ -215,7 +216,7 @@ fn page(n: usize, b: Book, s: &[u8], t: &[u8], out: &mut [u8], at: usize) -> Boo
             let book = a.book;
             BookTurn {
                 book,
-                at: bench_book::number(out, at, answer),
+                page: Page::Number(answer),
             }
         }
         0x43 => {
@@ -224,12 +225,12 @@ fn page(n: usize, b: Book, s: &[u8], t: &[u8], out: &mut [u8], at: usize) -> Boo
             let book = a.book;
             BookTurn {
                 book,
-                at: bench_book::command(out, at, answer),
+                page: Page::Command(answer),
             }
         }
         _ => BookTurn {
             book: b,
-            at: bench_book::show(out, at, b),
+            page: Page::Book,
         },
     }
 }
@@ -291,15 +292,16 @@ fn made(c: Call, state: State, bytes: &[u8], out: &mut [u8], at: usize) -> Turn 
     let r = state.reply;
     match n / 16 {
         4 => {
-            let p = page(n, b, s, t, out, at);
+            let p = page(n, b, s, t);
             let book = p.book;
+            let answer = p.page;
             Turn {
                 state: State {
                     book,
                     request: q,
                     reply: r,
                 },
-                at: p.at,
+                at: bench_book::say(out, at, answer, book),
             }
         }
         5 => {

@@ -12,6 +12,8 @@ use Rattle.book.specs.declared.Given.{Given}
 use Rattle.book.specs.declared.Given.the-variants.{Number, Refused as given·Refused}
 use Rattle.book.specs.declared.Freed.{Freed}
 use Rattle.book.specs.declared.Freed.the-variants.{Command, Refused as freed·Refused}
+use Rattle.bench_book.specs.declared.Page.{Page}
+use Rattle.bench_book.specs.declared.Page.the-variants.{Done, Number as a·Number, Command as a·Command, Book as the·Book}
 
 -- "the commands held under 0, 1, ..; 00 behind them"
 abbrev pub handedBook : ℕ → List ℕ → Book
@@ -39,3 +41,10 @@ entriesTexts (suc k) n s = entryTexts n (getD s n 0) ++ entriesTexts k (suc n) s
 -- "`last N held NN CC NN CC ..`"
 abbrev pub bookTexts : Book → List (List ℕ)
 bookTexts b = text "0 last " ∷ decimalOf (b .last) ∷ text " held" ∷ entriesTexts 256 0 (b .asked)
+
+-- the answer of a call that leaves this book: 0, or as above
+abbrev pub pageTexts : Page → Book → List (List ℕ)
+pageTexts Done b = text "0" ∷ []
+pageTexts (a·Number g) b = numberTexts g
+pageTexts (a·Command f) b = commandTexts f
+pageTexts the·Book b = bookTexts b

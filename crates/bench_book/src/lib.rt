@@ -2,10 +2,18 @@
 // unanswered requests". It leans on crates bench_words and bench_say, and on crate book for what is said.
 ghost use mathlib.Core.Path.{_≡_};
 ghost use Rattle.bench_say.specs.Said.{PutsAll};
-ghost use Rattle.bench_book.specs.Pages.{handedBook, numberTexts, commandTexts, entryTexts, entriesTexts, bookTexts};
+ghost use Rattle.bench_book.specs.Pages.{handedBook, numberTexts, commandTexts, entryTexts, entriesTexts, bookTexts, pageTexts};
 use book::Book;
 use book::Freed;
 use book::Given;
+
+// What a call of this family answers. A book that is shown is the one that the call leaves.
+pub enum Page {
+    Done,
+    Number(Given),
+    Command(Freed),
+    Book,
+}
 
 // A book with this last number, that holds these commands under 0, 1, and so on, and nothing behind them.
 pub fn handed(last: u8, s: &[u8]) -> Book
@@ -21,7 +29,7 @@ pub fn handed(last: u8, s: &[u8]) -> Book
 }
 
 // The sequence number for a request.
-pub fn number(out: &mut [u8], at: usize, g: Given) -> usize
+fn number(out: &mut [u8], at: usize, g: Given) -> usize
     ensures { λ r. ⌜ PutsAll (numberTexts g) (now (out .entry)) at r (now (out .exit)) ⌝ }
 {
     match g {
@@ -31,7 +39,7 @@ pub fn number(out: &mut [u8], at: usize, g: Given) -> usize
 }
 
 // The command that a reply answers.
-pub fn command(out: &mut [u8], at: usize, f: Freed) -> usize
+fn command(out: &mut [u8], at: usize, f: Freed) -> usize
     ensures { λ r. ⌜ PutsAll (commandTexts f) (now (out .entry)) at r (now (out .exit)) ⌝ }
 {
     match f {
@@ -63,11 +71,23 @@ fn entries(out: &mut [u8], at: usize, asked: &[u8; 256]) -> usize
 }
 
 // The whole book.
-pub fn show(out: &mut [u8], at: usize, b: Book) -> usize
+fn show(out: &mut [u8], at: usize, b: Book) -> usize
     ensures { λ r. ⌜ PutsAll (bookTexts b) (now (out .entry)) at r (now (out .exit)) ⌝ }
 {
     let e = bench_say::small(out, at, b"0 last ", b.last);
     let f = bench_say::word(out, e, b" held");
     let asked = b.asked;
     entries(out, f, &asked)
+}
+
+// The answer of a call, with the book that it leaves.
+pub fn say(out: &mut [u8], at: usize, p: Page, b: Book) -> usize
+    ensures { λ r. ⌜ PutsAll (pageTexts p b) (now (out .entry)) at r (now (out .exit)) ⌝ }
+{
+    match p {
+        Page::Done => bench_say::word(out, at, b"0"),
+        Page::Number(g) => number(out, at, g),
+        Page::Command(f) => command(out, at, f),
+        Page::Book => show(out, at, b),
+    }
 }
