@@ -28,6 +28,6 @@ inhibitBytes t seconds = record { a = t .0; b = 0; c = getD (bigBytes 2 seconds)
 abbrev pub lastBytes : LineTarget → ℕ → Arguments
 lastBytes t n = record { a = t .0; b = 0; c = 0; d = n }
 
--- A3 to AB but AC: a target in A
+-- A3 to AB, AD, AE: a target in A
 abbrev pub targetBytes : LineTarget → Arguments
 targetBytes t = record { a = t .0; b = 0; c = 0; d = 0 }
