@@ -4,7 +4,6 @@
 #include <stdlib.h>
 #include <string.h>
 #include "wickanchor.h"
-#include "wickanchor_names.h"
 
 struct group {
     uint8_t *bytes;
@@ -56,6 +55,17 @@ static void wrote(struct wick_wrote w, struct group b, uint8_t *out) {
     printf(" after");
     hex(out, b.n);
     free(out);
+}
+
+static void type_name(uint8_t kind) {
+    uint8_t text[WICK_NAME_MOST];
+    struct wick_wrote w = wick_name(WICK_KIND_EVENT_TYPE, kind, text, sizeof text);
+    printf("%.*s", w.refusal ? 5 : (int)w.count, w.refusal ? "OTHER" : (const char *)text);
+}
+
+static void name(void) {
+    uint8_t *out = lent(g[1]);
+    wrote(wick_name(g[0].bytes[0], g[0].bytes[1], out, g[1].n), g[1], out);
 }
 
 static void meaning(struct wick_meaning m) {
@@ -171,7 +181,8 @@ static void event(void) {
     hex(e.mac.bytes, 6);
     number("target", e.target);
     number("type", e.kind);
-    printf(" %s", wick_event_type_name(e.kind));
+    putchar(' ');
+    type_name(e.kind);
     number("n", e.n);
     if (e.has_instance) number("instance", e.instance);
     else printf(" instance absent");
@@ -193,7 +204,10 @@ static void write_event(void) {
 static void sum(void) { printf("0 sum %02X", wick_sum(g[0].bytes, g[0].n)); }
 static void known(void) { printf(wick_known(g[0].bytes[0]) ? "0 known" : "0 unknown"); }
 
-static void event_type(void) { printf("0 type %u %s", g[0].bytes[0], wick_event_type_name(g[0].bytes[0])); }
+static void event_type(void) {
+    printf("0 type %u ", g[0].bytes[0]);
+    type_name(g[0].bytes[0]);
+}
 
 static void error_name(void) {
     uint8_t n = wick_error_name(g[0].bytes[0]);
@@ -369,7 +383,7 @@ static const struct {
 } calls[] = {
     CALL(request), CALL(write_basic), CALL(write_unicast), CALL(relay_request), CALL(relay_reply), CALL(relay_event),
     CALL(reply), CALL(reply_data), CALL(error_code), CALL(write_reply), CALL(event), CALL(event_data), CALL(write_event),
-    CALL(sum), CALL(known), CALL(error_name), CALL(event_type), CALL(group_target), CALL(device), CALL(device_number),
+    CALL(sum), CALL(known), CALL(error_name), CALL(event_type), CALL(group_target), CALL(device), CALL(device_number), CALL(name),
     CALL(lights), CALL(status), CALL(mask), CALL(scenes), CALL(gear), CALL(types), CALL(count_types), CALL(count_gear),
     CALL(lowest_type), CALL(lowest_gear), CALL(filters), CALL(filter), CALL(book_fresh), CALL(book_set), CALL(book_show), CALL(ask), CALL(answer),
     CALL(fresh_request), CALL(fresh_reply), CALL(hold_request), CALL(hold_reply), CALL(feed_request), CALL(feed_reply),

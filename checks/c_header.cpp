@@ -1,5 +1,5 @@
 // The header in C++: it compiles, and its functions link.
-#include "wickanchor_names.h"
+#include "wickanchor.h"
 
 int main() {
     const uint8_t frame[] = {0xA1, 0x00, 0x02, 0x07, 0x0F, 0xAB};

@@ -1,10 +1,16 @@
 /* Says what a datagram is. Its bytes are the arguments, in hexadecimal:  datagram A3 07 01 B1 14 */
 #include <stdio.h>
 #include <stdlib.h>
-#include "wickanchor_names.h"
+#include "wickanchor.h"
 
 static void bytes(const uint8_t *data, uint64_t n) {
     for (uint64_t i = 0; i < n; i++) printf(" %02X", data[i]);
+}
+
+static const char *name(uint8_t kind, uint8_t number) {
+    static uint8_t text[WICK_NAME_MOST + 1];
+    text[wick_name(kind, number, text, WICK_NAME_MOST).count] = 0;
+    return (const char *)text;
 }
 
 int main(int argc, char **argv) {
@@ -16,14 +22,14 @@ int main(int argc, char **argv) {
     struct wick_reply r = wick_reply(d, n);
     struct wick_event v = wick_event(d, n);
     if (!q.refusal) {
-        printf("request %u: %s, arguments %u %u %u %u", q.sequence, wick_command_name(q.command), q.a, q.b, q.c, q.d);
+        printf("request %u: %s, arguments %u %u %u %u", q.sequence, name(WICK_KIND_COMMAND, q.command), q.a, q.b, q.c, q.d);
     } else if (!r.refusal) {
         struct wick_code e = wick_error_code(d, n);
-        printf("reply %u: %s, data", r.sequence, wick_reply_type_name(r.kind));
+        printf("reply %u: %s, data", r.sequence, name(WICK_KIND_REPLY_TYPE, r.kind));
         bytes(d + r.data_at, r.n);
-        if (e.has_code) printf(", error %s", wick_error_code_name(e.code));
+        if (e.has_code) printf(", error %s", name(WICK_KIND_ERROR, e.code));
     } else if (!v.refusal) {
-        printf("event: %s of target %u, data", wick_event_type_name(v.kind), (unsigned)v.target);
+        printf("event: %s of target %u, data", name(WICK_KIND_EVENT_TYPE, v.kind), (unsigned)v.target);
         bytes(d + v.data_at, v.n);
     } else {
         printf("refused: %u as a request, %u as a reply, %u as an event", q.refusal, r.refusal, v.refusal);

@@ -14,7 +14,8 @@
 
 #include <stdint.h>
 
-#define WICKANCHOR_VERSION 1
+/* Grows with each change of what is declared here. 2: wick_name; names as text were a header of their own. */
+#define WICKANCHOR_VERSION 2
 
 #ifdef __cplusplus
 extern "C" {
@@ -37,6 +38,7 @@ extern "C" {
 #define WICK_EVENT_DATA_AT 13
 #define WICK_EVENT_TARGET_MOST 0xFFFFFF
 #define WICK_FILTERS_MOST 15
+#define WICK_NAME_MOST 33
 
 /* The most bytes that a reader of a line holds */
 #define WICK_REQUEST_LINE_HELD 10
@@ -242,6 +244,15 @@ struct wick_booked {
     struct wick_book book;          /* afterwards */
 };
 
+/* The kinds of numbers that have names as text */
+enum wick_kind {
+    WICK_KIND_REFUSAL = 0,
+    WICK_KIND_COMMAND = 1,
+    WICK_KIND_REPLY_TYPE = 2,
+    WICK_KIND_ERROR = 3,
+    WICK_KIND_EVENT_TYPE = 4
+};
+
 enum wick_line {
     WICK_REQUEST_LINE = 0,
     WICK_REPLY_LINE = 1             /* as is every other number */
@@ -320,6 +331,10 @@ struct wick_event wick_event(const uint8_t *bytes, uint64_t length);
 
 /* Writes an event with n data bytes, the instance included. Refusals 4, 7, 8. `data` and `out` must not overlap. */
 struct wick_wrote wick_write_event(struct wick_mac mac, uint32_t target, uint8_t kind, const uint8_t *data, uint64_t n, uint8_t *out, uint64_t room);
+
+/* Puts the name of a number as text, without a zero byte behind it: no name has more than WICK_NAME_MOST bytes. `kind` is one of enum
+   wick_kind. Refusals 7 where it has none (an event type above 9 has none), 8. */
+struct wick_wrote wick_name(uint8_t kind, uint8_t number, uint8_t *out, uint64_t room);
 
 /* The exclusive-or of some bytes: 0 for a whole frame. */
 uint8_t wick_sum(const uint8_t *bytes, uint64_t length);

@@ -756,6 +756,17 @@ def relays():
             yield call("relay_" + family, resummed(datagram), pattern(len(frame) + 2))
 
 
+def names():
+    """Every number of every kind, with room; and the names of some into buffers of every size about theirs."""
+    for kind in range(6):
+        for number in range(256):
+            yield call("name", [kind, number], pattern(35))
+    for kind, number in [(0, 0), (0, 8), (1, 0x1D), (2, 0xA3), (3, 0xB1), (4, 6), (5, 0), (255, 255)]:
+        for size in range(36):
+            yield call("name", [kind, number], pattern(size))
+    yield "help"
+
+
 # Lines that are no call
 
 def filled(line, size):
@@ -804,6 +815,7 @@ NO_CALLS = [
     "book_set 00 /" + " 01" * 257, "fresh_request 00", "close_reply 00", "show_reply 00", "hold_reply 00 / 01",
     "hold_reply / 01", "hold_reply 00 00 00 00 00 00 00 01 /" + " A0" * 68,
     "hold_request 00 00 00 00 00 00 00 01 /" + " 04" * 68,
+    "help 00", "help /", "help zz", "Help", "helps", "name 01 01", "name 01 / 00", "name 01 01 01 / 00",
 ]
 
 # Calls with several blanks and small letters.
@@ -837,6 +849,7 @@ KINDS = [
     ("settling", settling),
     ("items at a position", items_at),
     ("relays", relays),
+    ("names", names),
     ("lines that are no call", no_calls),
 ]
 

@@ -644,6 +644,46 @@ def relay_event(datagram, buffer):
     return write_event(event.mac, event.target, event.type, event.data, buffer)
 
 
+# Names of numbers as text, by kind: refusals (ours, docs/BENCH.md), commands, types of replies, error codes and types of events
+# (source 002, "Commands", "TPI Advanced Response", "Error Codes", "TPI Event Types").
+
+COMMAND_NAMES = {
+    0x01: "QUERY_GROUP_LABEL", 0x08: "ENABLE_TPI_EVENT_EMIT", 0x09: "QUERY_GROUP_NUMBERS", 0x0A: "QUERY_SCENE_NUMBERS",
+    0x0B: "QUERY_PROFILE_NUMBERS", 0x0C: "QUERY_OCCUPANCY_INSTANCE_TIMERS", 0x1A: "QUERY_SCENE_NUMBERS_FOR_GROUP",
+    0x1B: "QUERY_SCENE_LABEL_FOR_GROUP", 0x1C: "QUERY_CONTROLLER_VERSION_NUMBER", 0x1D: "QUERY_CONTROL_GEAR_DALI_ADDRESSES",
+    0x20: "QUERY_DMX_DEVICE_LABEL_BY_NUMBER", 0x31: "DALI_ADD_TPI_EVENT_FILTER", 0x32: "QUERY_DALI_TPI_EVENT_FILTERS",
+    0x33: "DALI_CLEAR_TPI_EVENT_FILTERS", 0x34: "QUERY_DALI_COLOUR", 0x40: "SET_TPI_EVENT_UNICAST_ADDRESS",
+    0x41: "QUERY_TPI_EVENT_UNICAST_ADDRESS", 0xA0: "DALI_INHIBIT", 0xA1: "DALI_SCENE", 0xA2: "DALI_ARC_LEVEL",
+    0xA3: "DALI_ON_STEP_UP", 0xA4: "DALI_STEP_DOWN_OFF", 0xA5: "DALI_UP", 0xA6: "DALI_DOWN", 0xA7: "DALI_RECALL_MAX",
+    0xA8: "DALI_RECALL_MIN", 0xA9: "DALI_OFF", 0xAA: "DALI_QUERY_LEVEL", 0xAB: "DALI_QUERY_CONTROL_GEAR_STATUS",
+    0xAC: "DALI_QUERY_CG_TYPE", 0xAD: "DALI_QUERY_LAST_SCENE", 0xAE: "DALI_QUERY_LAST_SCENE_IS_CURRENT",
+}
+
+ERROR_CODE_NAMES = {
+    0x01: "CHECKSUM", 0x02: "SHORT_CIRCUIT", 0x03: "RECEIVE_ERROR", 0x04: "UNKNOWN_CMD", 0xB0: "PAID_FEATURE", 0xB1: "INVALID_ARGS",
+    0xB2: "CMD_REFUSED", 0xB3: "QUEUE_FAILURE", 0xB4: "RESPONSE_UNAVAIL", 0xB5: "OTHER_DALI_ERROR", 0xB6: "MAX_LIMIT",
+    0xB7: "UNEXPECTED_RESULT", 0xB8: "UNKNOWN_TARGET",
+}
+
+KIND_NAMES = [
+    dict(enumerate(["OK", "TOO_SHORT", "BAD_LEAD", "UNKNOWN_COMMAND", "BAD_LENGTH_BYTE", "BAD_LENGTH", "BAD_SUM", "BAD_ARGUMENT", "NO_ROOM",
+                    "NO_NUMBER_FREE", "NOT_AWAITED", "BAD_DATA_SIZE", "NONE_THERE"])),
+    COMMAND_NAMES,
+    {0xA0: "OK", 0xA1: "ANSWER", 0xA2: "NO_ANSWER", 0xA3: "ERROR"},
+    ERROR_CODE_NAMES,
+    dict(enumerate(EVENT_NAMES)),
+]
+
+
+def write_name(kind, number, buffer):
+    """Writes the name of a number into the lent buffer; gives the count."""
+    refuse(7, kind >= len(KIND_NAMES) or number not in KIND_NAMES[kind])
+    name = KIND_NAMES[kind][number].encode("ascii")
+    refuse(8, len(buffer) < len(name))
+    buffer[:len(name)] = name
+    return len(name)
+
+
 # The calls, by name: the sizes of their groups, and the answer
 
 def plain(fields):
@@ -674,18 +714,18 @@ DATAGRAM_CALLS = {
                     lent(lambda head, buffer: write_basic(head[0], head[1], head[2:], buffer))),
     "write_unicast": ([exactly(7), SOME],
                       lent(lambda head, buffer: write_unicast(head[0], head[1:], buffer))),
-    "relay_request": ([SOME, SOME], lent(relay_request)),
     "reply": ([SOME], plain(reply_fields)),
     "reply_data": ([SOME], plain(data_fields(read_reply))),
     "error_code": ([SOME], plain(error_code_fields)),
     "write_reply": ([exactly(2), SOME, SOME],
                     lent(lambda head, data, buffer: write_reply(head[0], head[1], data, buffer))),
-    "relay_reply": ([SOME, SOME], lent(relay_reply)),
     "event": ([SOME], plain(event_fields)),
     "event_data": ([SOME], plain(data_fields(read_event))),
     "write_event": ([exactly(11), SOME, SOME],
                     lent(lambda head, data, buffer:
                          write_event(head[:6], high_first(head[6:10]), head[10], data, buffer))),
+    "relay_request": ([SOME, SOME], lent(relay_request)),
+    "relay_reply": ([SOME, SOME], lent(relay_reply)),
     "relay_event": ([SOME, SOME], lent(relay_event)),
 }
 
@@ -702,6 +742,7 @@ PART_CALLS = {
     "status": ([exactly(1)], plain(lambda target: status(target[0]))),
     "device": ([exactly(1)], plain(lambda number: ["device", device_address(number[0])])),
     "device_number": ([exactly(1)], plain(lambda address: ["number", device_number(address[0])])),
+    "name": ([exactly(2), SOME], lent(lambda number, buffer: write_name(number[0], number[1], buffer))),
 }
 
 REPLY_DATA_CALLS = {
@@ -733,6 +774,7 @@ class Bench:
         for line in ["request", "reply"]:
             self.readers[line] = Reader(line)
             self.calls.update(self.line_calls(line))
+        self.calls["help"] = ([exactly(0)], plain(lambda none: ["calls"] + list(self.calls)))
 
     def book_calls(self):
         """The calls on the book that is carried."""

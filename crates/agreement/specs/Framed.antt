@@ -16,7 +16,7 @@ use Rattle.frame.specs.Frame.{byte}
 use Rattle.command.specs.declared.Shape.{Shape}
 use Rattle.command.specs.declared.Shape.the-variants.{Unknown, Basic, Unicast}
 use Rattle.command.specs.Command.{shapeOf}
-use Rattle.command.specs.Arguments.{fits}
+use Rattle.ranges.specs.Arguments.{fits}
 use Rattle.command.specs.Length.{Told, unknown, fixed, tested, lengthOf, basicBytes, unicastBytes, Within, length-within}
 use Rattle.request.specs.Reading.{readRequest, readBasic, readUnicast, readShape, stated}
 use Rattle.reply.specs.Reading.{readReply}
@@ -24,7 +24,7 @@ use Rattle.stream.specs.Stream.{Settled}
 use Rattle.line.specs.declared.Line.{Line}
 use Rattle.line.specs.declared.Line.the-variants.{Request, Reply}
 use Rattle.line.specs.declared.Extent.the-variants.{Wait, Bad, Frame}
-use Rattle.line.specs.Line.{replyLength, lengthExtent, requestExtent, extentOf, inTable, leastOf}
+use Rattle.line.specs.Line.{replyLength, lengthExtent, extentOf, inTable}
 use Rattle.line.specs.Cases.{Leads}
 use Rattle.line.specs.Extents.{frame-least}
 use Rattle.agreement.specs.Verdict.{Verdict, accepted, refusedWith, verdict, datagram, frameVerdict, isFramed}

@@ -4,14 +4,15 @@ use bench_book::Page;
 use bench_calls::Call;
 use bench_calls::Called;
 use bench_datagrams::Read;
+use bench_lines::Shown;
 use bench_maps::Data;
 use bench_parts::Fit;
 use bench_parts::Part;
 use bench_requests::Asked;
 use book::Book;
 use command::Shape;
-use event::EventType;
 use event::Mac;
+use event_type::EventType;
 use frame::Wrote;
 use line::Line;
 use meaning::Arguments;
@@ -41,7 +42,15 @@ struct BookTurn {
 
 struct LineTurn {
     held: Held,
-    at: usize,
+    shown: Shown,
+}
+
+// The state after a call, and what a call of the book or of a line answers, with the reader that it leaves.
+struct After {
+    state: State,
+    page: Page,
+    held: Held,
+    shown: Shown,
 }
 
 pub fn fresh() -> State {
@@ -73,21 +82,22 @@ fn write(n: usize, head: &[u8], data: &[u8], buffer: &mut [u8]) -> Wrote {
                 c: e,
                 d: f,
             };
-            request::write_basic(a, b, arguments, buffer)
+            writers::basic(a, b, arguments, buffer)
         }
         0x71 => {
             let port = bench_words::wide16(bench_words::part(head, 1, 3));
             let address = Ipv4(d, e, f, bench_words::byte_at(head, 6));
-            request::write_unicast(a, port, address, buffer)
+            writers::unicast(a, port, address, buffer)
         }
-        0x72 => request::relay(head, buffer),
-        0x73 => reply::relay(head, buffer),
-        0x74 => event::relay(head, buffer),
-        0x80 => reply::write(a, b, data, buffer),
+        0x72 => relay::request(head, buffer),
+        0x73 => relay::reply(head, buffer),
+        0x74 => relay::event(head, buffer),
+        0x75 => names::name(a, b, buffer),
+        0x80 => writers::reply(a, b, data, buffer),
         0x81 => {
             let target = bench_words::wide32(bench_words::part(head, 6, 10));
             let kind = bench_words::byte_at(head, 10);
-            event::write(Mac(a, b, c, d, e, f), target, kind, data, buffer)
+            writers::event(Mac(a, b, c, d, e, f), target, kind, data, buffer)
         }
         _ => frame::write(head, data, buffer),
     }
@@ -140,7 +150,7 @@ fn fit(s: &[u8]) -> Fit {
     let shape = command::shape_of(bench_words::byte_at(s, 0));
     match shape {
         Shape::Basic(rule) => {
-            if command::fits(rule, a, b, c, d) {
+            if ranges::fits(rule, a, b, c, d) {
                 Fit::Fits
             } else {
                 Fit::Outside
@@ -195,6 +205,7 @@ fn plain(n: usize, s: &[u8], t: &[u8], u: &[u8], out: &mut [u8], at: usize) -> u
         7 => wrote(n, s, b"", t, out, at),
         8 => wrote(n, s, t, u, out, at),
         9 => bench_datagrams::say(out, at, read(n, s)),
+        11 => bench_calls::help(out, at),
         _ => bench_say::run(out, at, b"0 data", data_part(n, s)),
     }
 }
@@ -236,22 +247,22 @@ fn page(n: usize, b: Book, s: &[u8], t: &[u8]) -> BookTurn {
 }
 
 // A call of a line, by the second digit of its number.
-fn line(n: usize, l: Line, h: Held, s: &[u8], t: &[u8], out: &mut [u8], at: usize) -> LineTurn {
+fn line(n: usize, l: Line, h: Held, s: &[u8], t: &[u8]) -> LineTurn {
     match n {
         0 => LineTurn {
             held: reader::fresh(),
-            at: lent::byte(out, at, b'0'),
+            shown: bench_lines::done(),
         },
         1 => LineTurn {
             held: bench_lines::handed(bench_words::wide64(s) as usize, t),
-            at: lent::byte(out, at, b'0'),
+            shown: bench_lines::done(),
         },
         2 => {
             let f = reader::feed(l, h, s);
             let held = f.held;
             LineTurn {
                 held,
-                at: bench_lines::fed(out, at, f),
+                shown: bench_lines::fed(f),
             }
         }
         3 => {
@@ -259,34 +270,29 @@ fn line(n: usize, l: Line, h: Held, s: &[u8], t: &[u8], out: &mut [u8], at: usiz
             let held = f.held;
             LineTurn {
                 held,
-                at: bench_lines::closed(out, at, f),
+                shown: bench_lines::closed(f),
             }
         }
         4 => LineTurn {
             held: h,
-            at: bench_lines::show(out, at, h),
+            shown: bench_lines::show(h),
         },
         5 => LineTurn {
             held: h,
-            at: bench_lines::step(out, at, line::settled(l, s)),
+            shown: bench_lines::step(line::settled(l, s)),
         },
         _ => {
             let closed = bench_words::byte_at(s, 0) != 0;
             LineTurn {
                 held: h,
-                at: bench_lines::item(out, at, line::item_at(l, closed, t)),
+                shown: bench_lines::item(line::item_at(l, closed, t)),
             }
         }
     }
 }
 
-// A call, by its family, the first digit of its number.
-fn made(c: Call, state: State, bytes: &[u8], out: &mut [u8], at: usize) -> Turn {
-    let n = c.number;
-    let g = c.groups;
-    let s = bench_words::part(bytes, 0, g.a);
-    let t = bench_words::part(bytes, g.a, g.b);
-    let u = bench_words::part(bytes, g.b, g.c);
+// What a call makes of the state, by its family, the first digit of its number.
+fn moved(n: usize, state: State, s: &[u8], t: &[u8]) -> After {
     let b = state.book;
     let q = state.request;
     let r = state.reply;
@@ -295,40 +301,81 @@ fn made(c: Call, state: State, bytes: &[u8], out: &mut [u8], at: usize) -> Turn 
             let p = page(n, b, s, t);
             let book = p.book;
             let answer = p.page;
-            Turn {
+            After {
                 state: State {
                     book,
                     request: q,
                     reply: r,
                 },
-                at: bench_book::say(out, at, answer, book),
+                page: answer,
+                held: q,
+                shown: bench_lines::done(),
             }
         }
         5 => {
-            let p = line(n % 16, Line::Request, q, s, t, out, at);
+            let p = line(n % 16, Line::Request, q, s, t);
             let request = p.held;
-            Turn {
+            let shown = p.shown;
+            After {
                 state: State {
                     book: b,
                     request,
                     reply: r,
                 },
-                at: p.at,
+                page: Page::Done,
+                held: request,
+                shown,
             }
         }
         6 => {
-            let p = line(n % 16, Line::Reply, r, s, t, out, at);
+            let p = line(n % 16, Line::Reply, r, s, t);
             let reply = p.held;
-            Turn {
+            let shown = p.shown;
+            After {
                 state: State {
                     book: b,
                     request: q,
                     reply,
                 },
-                at: p.at,
+                page: Page::Done,
+                held: reply,
+                shown,
             }
         }
-        _ => said(state, plain(n, s, t, u, out, at)),
+        _ => After {
+            state,
+            page: Page::Done,
+            held: q,
+            shown: bench_lines::done(),
+        },
+    }
+}
+
+// The answer of a call, by its family.
+fn answered(n: usize, a: After, s: &[u8], t: &[u8], u: &[u8], out: &mut [u8], at: usize) -> usize {
+    let state = a.state;
+    let page = a.page;
+    let held = a.held;
+    let shown = a.shown;
+    let book = state.book;
+    match n / 16 {
+        4 => bench_book::say(out, at, page, book),
+        5 | 6 => bench_lines::say(out, at, shown, held),
+        _ => plain(n, s, t, u, out, at),
+    }
+}
+
+fn made(c: Call, state: State, bytes: &[u8], out: &mut [u8], at: usize) -> Turn {
+    let n = c.number;
+    let g = c.groups;
+    let s = bench_words::part(bytes, 0, g.a);
+    let t = bench_words::part(bytes, g.a, g.b);
+    let u = bench_words::part(bytes, g.b, g.c);
+    let a = moved(n, state, s, t);
+    let next = a.state;
+    Turn {
+        state: next,
+        at: answered(n, a, s, t, u, out, at),
     }
 }
 

@@ -90,7 +90,7 @@ fn cut(r: Run, input: &[u8], line: &mut [u8]) -> Run {
     let from = r.from;
     let to = r.to;
     let before = r.text;
-    let e = bench_words::until(bench_words::part(input, 0, to), from, b'\n');
+    let e = words::until(bench_words::part(input, 0, to), from, b'\n');
     let text = grown(before, bench_words::part(input, from, e), e < to, line);
     let next = if e < to { e + 1 } else { to };
     Run {
@@ -157,7 +157,7 @@ fn answered(r: Run, state: State, line: &[u8], out: &mut [u8]) -> Turn {
         return calls::said(state, at);
     }
     if t.long {
-        return calls::said(state, bench_say::word(out, at, b"? line too long"));
+        return calls::said(state, lent::word(out, at, b"? line too long"));
     }
     let whole = bench_words::part(line, 0, t.len);
     calls::answer(state, whole, out, at)

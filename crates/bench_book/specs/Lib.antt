@@ -2,3 +2,4 @@
 pub mod Pages
 -- what only serves proofs
 pub mod Turns
+pub mod Pieces

@@ -6,7 +6,7 @@ use lib.Dec.{eqb}
 use Rattle.refusal.specs.Test.{pick}
 use Rattle.text.specs.Text.{hexOf, decimalOf}
 use Rattle.bench_words.specs.Words.{frontOf}
-use Rattle.bench_say.specs.Said.{text}
+use Rattle.words.specs.Words.{text}
 use Rattle.book.specs.declared.Book.{Book}
 use Rattle.book.specs.declared.Given.{Given}
 use Rattle.book.specs.declared.Given.the-variants.{Number, Refused as given·Refused}

@@ -2,7 +2,9 @@
 // unanswered requests". It leans on crates bench_words and bench_say, and on crate book for what is said.
 ghost use mathlib.Core.Path.{_≡_};
 ghost use Rattle.bench_say.specs.Said.{PutsAll};
-ghost use Rattle.bench_book.specs.Pages.{handedBook, numberTexts, commandTexts, entryTexts, entriesTexts, bookTexts, pageTexts};
+ghost use Rattle.bench_book.specs.Pages.{handedBook, entryTexts, entriesTexts, pageTexts};
+ghost use Rattle.bench_book.specs.Pieces.{numberPieces, commandPieces, pagePieces};
+use bench_say::Pieces;
 use book::Book;
 use book::Freed;
 use book::Given;
@@ -29,22 +31,34 @@ pub fn handed(last: u8, s: &[u8]) -> Book
 }
 
 // The sequence number for a request.
-fn number(out: &mut [u8], at: usize, g: Given) -> usize
-    ensures { λ r. ⌜ PutsAll (numberTexts g) (now (out .entry)) at r (now (out .exit)) ⌝ }
+fn number(g: Given) -> Pieces
+    ensures { λ r. ⌜ r ≡ numberPieces g ⌝ }
 {
     match g {
-        Given::Number(n) => bench_say::small(out, at, b"0 number ", n),
-        Given::Refused(k) => bench_say::refusal(out, at, k),
+        Given::Number(n) => Pieces(0x12, n as u64, 0, 0, 0, 0, 0),
+        Given::Refused(k) => Pieces(4, k as u64, 0, 0, 0, 0, 0),
     }
 }
 
 // The command that a reply answers.
-fn command(out: &mut [u8], at: usize, f: Freed) -> usize
-    ensures { λ r. ⌜ PutsAll (commandTexts f) (now (out .entry)) at r (now (out .exit)) ⌝ }
+fn command(f: Freed) -> Pieces
+    ensures { λ r. ⌜ r ≡ commandPieces f ⌝ }
 {
     match f {
-        Freed::Command(c) => bench_say::byte(out, at, b"0 command ", c),
-        Freed::Refused(k) => bench_say::refusal(out, at, k),
+        Freed::Command(c) => Pieces(0x23, 0, 0, 0, 0, 0, c),
+        Freed::Refused(k) => Pieces(4, k as u64, 0, 0, 0, 0, 0),
+    }
+}
+
+// What is answered but for the entries of a book: the places of the names below are in the pieces' kinds (crate bench_say).
+fn answer(p: Page, last: u8) -> Pieces
+    ensures { λ r. ⌜ r ≡ pagePieces p last ⌝ }
+{
+    match p {
+        Page::Done => Pieces(0x01, 0, 0, 0, 0, 0, 0),
+        Page::Number(g) => number(g),
+        Page::Command(f) => command(f),
+        Page::Book => Pieces(0x32, last as u64, 0x41, 0, 0, 0, 0),
     }
 }
 
@@ -54,8 +68,8 @@ fn entry(out: &mut [u8], at: usize, n: u8, c: u8) -> usize
     if c == 0 {
         return at;
     }
-    let e = bench_say::byte(out, at, b" ", n);
-    bench_say::byte(out, e, b" ", c)
+    let e = bench_say::put(out, at, b" ", Pieces(0x03, 0, 0, 0, 0, 0, n));
+    bench_say::put(out, e, b" ", Pieces(0x03, 0, 0, 0, 0, 0, c))
 }
 
 fn entries(out: &mut [u8], at: usize, asked: &[u8; 256]) -> usize
@@ -70,24 +84,21 @@ fn entries(out: &mut [u8], at: usize, asked: &[u8; 256]) -> usize
     e
 }
 
-// The whole book.
-fn show(out: &mut [u8], at: usize, b: Book) -> usize
-    ensures { λ r. ⌜ PutsAll (bookTexts b) (now (out .entry)) at r (now (out .exit)) ⌝ }
-{
-    let e = bench_say::small(out, at, b"0 last ", b.last);
-    let f = bench_say::word(out, e, b" held");
-    let asked = b.asked;
-    entries(out, f, &asked)
-}
-
 // The answer of a call, with the book that it leaves.
 pub fn say(out: &mut [u8], at: usize, p: Page, b: Book) -> usize
     ensures { λ r. ⌜ PutsAll (pageTexts p b) (now (out .entry)) at r (now (out .exit)) ⌝ }
 {
+    let asked = b.asked;
+    let e = bench_say::put(
+        out,
+        at,
+        b"0,0 number ,0 command ,0 last , held",
+        answer(p, b.last),
+    );
     match p {
-        Page::Done => bench_say::word(out, at, b"0"),
-        Page::Number(g) => number(out, at, g),
-        Page::Command(f) => command(out, at, f),
-        Page::Book => show(out, at, b),
+        Page::Done => e,
+        Page::Number(_) => e,
+        Page::Command(_) => e,
+        Page::Book => entries(out, e, &asked),
     }
 }

@@ -5,8 +5,8 @@ use mathlib.Core.List.{List, [], _∷_, _++_}
 use lib.ListN.{length, take, drop}
 use lib.Dec.{eqb, ltb}
 use Rattle.refusal.specs.Test.{pick}
-use Rattle.bench_say.specs.Said.{text}
-use Rattle.bench_words.specs.Words.{before, blanks}
+use Rattle.words.specs.Words.{text, before}
+use Rattle.bench_words.specs.Words.{blanks}
 use Rattle.bench_words.specs.Groups.{takenOf, keptOf, parsedOf}
 use Rattle.bench_words.specs.declared.Groups.{Groups}
 use Rattle.bench_words.specs.declared.Parsed.{Parsed}

@@ -4,3 +4,4 @@ pub mod Called
 -- what only serves proofs
 pub mod Rows
 pub mod Lines
+pub mod Faults

@@ -1,10 +1,11 @@
 -- A line's call from what its parts were found to be.
 use Prim.Native.Nat.{ℕ, _+_, _-_}
-use mathlib.Core.Path.{_≡_, refl}
+use mathlib.Core.Path.{_≡_}
 use mathlib.Core.List.{List}
-use lib.ListN.{length, take, drop}
+use lib.ListN.{take, drop}
 use borrow.Author.Tests.{eq-eqb, ne-eqb}
-use Rattle.bench_words.specs.Words.{before, blanks}
+use Rattle.words.specs.Words.{before}
+use Rattle.bench_words.specs.Words.{blanks}
 use Rattle.bench_words.specs.Groups.{Reads}
 use Rattle.bench_words.specs.declared.Parsed.{Parsed}
 use Rattle.bench_calls.specs.Table.{rowOf}

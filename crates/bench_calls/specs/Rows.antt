@@ -10,8 +10,8 @@ use borrow.Author.Tests.{eq-eqb, ne-eqb}
 use native.Mathlib.Numerals.{add-one}
 use native.Mathlib.Omega.{arith}
 use Rattle.refusal.specs.Test.{pick}
-use Rattle.bench_say.specs.Said.{text}
-use Rattle.bench_words.specs.Words.{before, wordsAt}
+use Rattle.words.specs.Words.{text, before}
+use Rattle.bench_words.specs.Words.{wordsAt}
 use Rattle.bench_words.specs.Turns.{words-turn, words-done}
 use Rattle.bench_calls.specs.Table.{Row, row, table, sameAs, rowIn, rowOf, placeIn}
 

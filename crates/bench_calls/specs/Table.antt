@@ -2,10 +2,10 @@
 use Prim.Native.Nat.{ℕ, suc}
 use Prim.Native.String.{String}
 use mathlib.Core.Bool.{Bool, true, false}
-use mathlib.Core.List.{List, [], _∷_}
+use mathlib.Core.List.{List, [], _∷_, _++_}
 use lib.Dec.{eqb}
 use Rattle.refusal.specs.Test.{pick}
-use Rattle.bench_say.specs.Said.{text}
+use Rattle.words.specs.Words.{text}
 
 -- a call's name, and as digits of one hexadecimal number: its own number (2 digits), how many groups it takes (1), how many bytes the
 -- first has at least (3) and at most (3), and how many the second has at most (3). FFF is any: no line names so many bytes
@@ -41,6 +41,7 @@ table =
     ∷ row "status" 0x12_1_001_001_FFF
     ∷ row "device" 0x26_1_001_001_FFF
     ∷ row "device_number" 0x27_1_001_001_FFF
+    ∷ row "name" 0x75_2_002_002_FFF
     -- Reply data
     ∷ row "high_first" 0x30_1_002_002_FFF
     ∷ row "mask" 0x31_1_000_FFF_FFF
@@ -74,6 +75,8 @@ table =
     ∷ row "show_reply" 0x64_1_000_000_FFF
     ∷ row "settle_reply" 0x65_1_000_FFF_FFF
     ∷ row "item_reply" 0x66_2_001_001_FFF
+    -- Help
+    ∷ row "help" 0xB0_1_000_000_FFF
     ∷ []
 
 -- whether two runs are the same
@@ -95,3 +98,15 @@ rowOf name = rowIn table name
 unfoldable pub placeIn : List ℕ → List (List ℕ) → ℕ
 placeIn name [] = 0
 placeIn name (w ∷ ws) = pick (sameAs w name) 0 (suc (placeIn name ws))
+
+-- "the names of all calls, in the order of this page", with a blank between two
+abbrev pub namedFrom : String → List Row → List ℕ
+namedFrom s [] = text s
+namedFrom s (row t n ∷ rows) = text s ++ (32 ∷ namedFrom t rows)
+
+abbrev pub namesIn : List Row → List ℕ
+namesIn [] = []
+namesIn (row s n ∷ rows) = namedFrom s rows
+
+abbrev pub helpTexts : List (List ℕ)
+helpTexts = text "0 calls " ∷ namesIn table ∷ []

@@ -5,8 +5,10 @@ ghost use mathlib.Core.Path.{_≡_};
 ghost use lib.ListN.{length};
 ghost use Rattle.bench_say.specs.Said.{PutsAll};
 ghost use Rattle.bench_words.specs.Words.{wordsAt};
-ghost use Rattle.bench_calls.specs.Table.{sameAs, placeIn, rowOf};
+ghost use Rattle.bench_calls.specs.Table.{sameAs, placeIn, rowOf, helpTexts};
 ghost use Rattle.bench_calls.specs.Called.{measuredOf, Calls, refusedTexts};
+ghost use Rattle.bench_calls.specs.Faults.{faultKind};
+use bench_say::Pieces;
 use bench_words::Groups;
 use bench_words::Parsed;
 
@@ -28,7 +30,7 @@ pub enum Called {
 // many the second has at most, as digits of one hexadecimal number. FFF is more than a line can name. A third group may
 // have any. The first digit of a call's number is its family: what is answered of it is of one kind. (7 and 8 write into a
 // buffer, which is their last group of two or of three; A gives the data of a datagram.) New calls stand behind those of theirs.
-const ROWS: [usize; 55] = [
+const ROWS: [usize; 57] = [
     // Datagrams
     0x10_1_000_FFF_FFF, // request
     0x70_2_006_006_FFF, // write_basic
@@ -56,6 +58,7 @@ const ROWS: [usize; 55] = [
     0x12_1_001_001_FFF, // status
     0x26_1_001_001_FFF, // device
     0x27_1_001_001_FFF, // device_number
+    0x75_2_002_002_FFF, // name
     // Reply data
     0x30_1_002_002_FFF, // high_first
     0x31_1_000_FFF_FFF, // mask
@@ -89,7 +92,19 @@ const ROWS: [usize; 55] = [
     0x64_1_000_000_FFF, // show_reply
     0x65_1_000_FFF_FFF, // settle_reply
     0x66_2_001_001_FFF, // item_reply
+    // Help
+    0xB0_1_000_000_FFF, // help
 ];
+
+// Their names, in the order of the rows, with a blank between two.
+const NAMES: [u8; 560] =
+    *b"request write_basic write_unicast reply reply_data error_code write_reply event event_data \
+write_event relay_request relay_reply relay_event sum frame known shape fits error_name \
+event_type group_target lights status device device_number name high_first mask count_types \
+lowest_type scenes gear count_gear lowest_gear types filters filter book_fresh book_set ask \
+answer book_show fresh_request hold_request feed_request close_request show_request \
+settle_request item_request fresh_reply hold_reply feed_reply close_reply show_reply \
+settle_reply item_reply help";
 
 // Whether two runs hold the same bytes.
 fn same(s: &[u8], t: &[u8]) -> bool
@@ -115,7 +130,7 @@ fn place(names: &[u8], name: &[u8]) -> usize
     let mut i: usize = 0;
     let mut k: usize = 0;
     while i <= names.len() {
-        let e = bench_words::until(names, i, b' ');
+        let e = words::until(names, i, b' ');
         if same(&names[i..e], name) {
             return k;
         }
@@ -125,21 +140,12 @@ fn place(names: &[u8], name: &[u8]) -> usize
     k
 }
 
-// The row of a name, or 0. The names stand in the order of the rows.
+// The row of a name, or 0.
 fn row_of(name: &[u8]) -> usize
     ensures { λ r. ⌜ r ≡ rowOf (now (name .entry)) ⌝ }
 {
-    let k = place(
-        b"request write_basic write_unicast reply reply_data error_code write_reply event event_data \
-write_event relay_request relay_reply relay_event sum frame known shape fits error_name \
-event_type group_target lights status device device_number high_first mask count_types \
-lowest_type scenes gear count_gear lowest_gear types filters filter book_fresh book_set ask \
-answer book_show fresh_request hold_request feed_request close_request show_request \
-settle_request item_request fresh_reply hold_reply feed_reply close_reply show_reply \
-settle_reply item_reply",
-        name,
-    );
-    if k < 55 { ROWS[k] } else { 0 }
+    let k = place(&NAMES, name);
+    if k < 57 { ROWS[k] } else { 0 }
 }
 
 // Whether the groups are those that the row asks for.
@@ -174,7 +180,7 @@ pub fn read(line: &[u8], bytes: &mut [u8]) -> Called
     ensures { λ r. ⌜ Calls (now (line .entry)) (now (bytes .entry)) r (now (bytes .exit)) ⌝ }
 {
     let a = bench_words::first(line);
-    let e = bench_words::until(line, a, b' ');
+    let e = words::until(line, a, b' ');
     let row = row_of(&line[a..e]);
     if row == 0 {
         return Called::NoSuchCall;
@@ -186,15 +192,35 @@ pub fn read(line: &[u8], bytes: &mut [u8]) -> Called
     }
 }
 
+// What stands for a call that is none, by the places of the answers below (crate bench_say).
+fn fault(c: Called) -> usize
+    ensures { λ r. ⌜ r ≡ faultKind c ⌝ }
+{
+    match c {
+        Called::NoSuchCall => 0x01,
+        Called::NotAByte => 0x11,
+        Called::WrongGroups => 0x21,
+        Called::WrongBytes => 0x31,
+        Called::Call(_) => 0,
+    }
+}
+
 // The answer to a line that is no call.
 pub fn refused(out: &mut [u8], at: usize, c: Called) -> usize
     ensures { λ r. ⌜ PutsAll (refusedTexts c) (now (out .entry)) at r (now (out .exit)) ⌝ }
 {
-    match c {
-        Called::NoSuchCall => bench_say::word(out, at, b"? no such call"),
-        Called::NotAByte => bench_say::word(out, at, b"? not a byte"),
-        Called::WrongGroups => bench_say::word(out, at, b"? wrong number of groups"),
-        Called::WrongBytes => bench_say::word(out, at, b"? wrong number of bytes"),
-        Called::Call(_) => at,
-    }
+    bench_say::put(
+        out,
+        at,
+        b"? no such call,? not a byte,? wrong number of groups,? wrong number of bytes",
+        Pieces(fault(c), 0, 0, 0, 0, 0, 0),
+    )
+}
+
+// The names of all calls.
+pub fn help(out: &mut [u8], at: usize) -> usize
+    ensures { λ r. ⌜ PutsAll helpTexts (now (out .entry)) at r (now (out .exit)) ⌝ }
+{
+    let e = lent::word(out, at, b"0 calls ");
+    lent::word(out, e, &NAMES)
 }

@@ -2,17 +2,18 @@
 use Prim.Native.Nat.{ℕ}
 use mathlib.Core.List.{List, [], _∷_, _++_}
 use Rattle.text.specs.Text.{hexOf, decimalOf}
-use Rattle.bench_say.specs.Said.{text, runOf}
+use Rattle.words.specs.Words.{text}
+use Rattle.bench_say.specs.Said.{runOf}
 use Rattle.frame.specs.declared.Wrote.{Wrote}
 use Rattle.frame.specs.declared.Wrote.the-variants.{Count, Refused as wrote·Refused}
 use Rattle.reply.specs.declared.Reading.{Reading as Reply-reading}
 use Rattle.reply.specs.declared.Reading.the-variants.{Accepted as reply·Accepted, Refused as reply·Refused}
 use Rattle.reply.specs.declared.Code.{Code}
 use Rattle.reply.specs.declared.Code.the-variants.{Named, Number, Absent, Refused as code·Refused}
-use Rattle.event.specs.declared.EventType.{EventType}
-use Rattle.event.specs.declared.EventType.the-variants.{ButtonPress, ButtonHold, AbsoluteInput, LevelChange, GroupLevelChange, SceneChange, IsOccupied, IsUnoccupied, ColourChanged, ProfileChanged, Other}
-use Rattle.event.specs.declared.Instance.{Instance}
-use Rattle.event.specs.declared.Instance.the-variants.{Number as instance·Number, Absent as instance·Absent}
+use Rattle.event_type.specs.declared.EventType.{EventType}
+use Rattle.event_type.specs.declared.EventType.the-variants.{ButtonPress, ButtonHold, AbsoluteInput, LevelChange, GroupLevelChange, SceneChange, IsOccupied, IsUnoccupied, ColourChanged, ProfileChanged, Other}
+use Rattle.event_type.specs.declared.Instance.{Instance}
+use Rattle.event_type.specs.declared.Instance.the-variants.{Number as instance·Number, Absent as instance·Absent}
 use Rattle.event.specs.declared.Reading.{Reading as Event-reading}
 use Rattle.event.specs.declared.Reading.the-variants.{Accepted as event·Accepted, Refused as event·Refused}
 use Rattle.bench_datagrams.specs.declared.Read.{Read}

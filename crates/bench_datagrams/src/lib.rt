@@ -1,9 +1,13 @@
 // What replies and events are read as, and what a writer did, as the bench's answers. docs/BENCH.md, "Datagrams". It leans on
 // crate bench_say, and on crates frame, reply and event for what is said.
+ghost use mathlib.Core.Path.{_≡_};
 ghost use Rattle.bench_say.specs.Said.{PutsAll};
-ghost use Rattle.bench_datagrams.specs.Datagrams.{replyTexts, codeTexts, kindTexts, instanceTexts, eventTexts, wroteTexts, bufferTexts, readTexts};
-use event::EventType;
-use event::Instance;
+ghost use Rattle.bench_say.specs.Pieces.{piecesTexts};
+ghost use Rattle.bench_datagrams.specs.Datagrams.{bufferTexts, readTexts};
+ghost use Rattle.bench_datagrams.specs.Pieces.{names, replyPieces, codePieces, kindPieces, instancePieces, refusedPieces, readPieces, eventRest, countPieces};
+use bench_say::Pieces;
+use event_type::EventType;
+use event_type::Instance;
 use frame::Wrote;
 use reply::Code;
 
@@ -15,69 +19,94 @@ pub enum Read {
     Kind(EventType),
 }
 
+// Pieces with the names of this family: the places of the names are in the pieces' kinds (crate bench_say).
+fn put(out: &mut [u8], at: usize, p: Pieces) -> usize
+    ensures { λ r. ⌜ PutsAll (piecesTexts names p) (now (out .entry)) at r (now (out .exit)) ⌝ }
+{
+    bench_say::put(
+        out,
+        at,
+        b" type 0 BUTTON_PRESS, type 1 BUTTON_HOLD, type 2 ABSOLUTE_INPUT, \
+type 3 LEVEL_CHANGE, type 4 GROUP_LEVEL_CHANGE, type 5 SCENE_CHANGE, \
+type 6 IS_OCCUPIED, type 7 IS_UNOCCUPIED, type 8 COLOUR_CHANGED, \
+type 9 PROFILE_CHANGED, type , OTHER,0 type , sequence , n ,0 code , name ,\
+0 absent, target , instance , instance absent,0 count ,0",
+        p,
+    )
+}
+
 // What reading a reply datagram answers.
-fn reply(out: &mut [u8], at: usize, d: reply::Reading) -> usize
-    ensures { λ r. ⌜ PutsAll (replyTexts d) (now (out .entry)) at r (now (out .exit)) ⌝ }
+fn reply(d: reply::Reading) -> Pieces
+    ensures { λ r. ⌜ r ≡ replyPieces d ⌝ }
 {
     match d {
-        reply::Reading::Accepted(a) => {
-            let e = bench_say::byte(out, at, b"0 type ", a.kind);
-            let f = bench_say::small(out, e, b" sequence ", a.sequence);
-            bench_say::size(out, f, b" n ", a.n)
-        }
-        reply::Reading::Refused(k) => bench_say::refusal(out, at, k),
+        reply::Reading::Accepted(a) => Pieces(
+            0xC3,
+            0,
+            0xD2,
+            a.sequence as u64,
+            0xE2,
+            a.n as u64,
+            a.kind,
+        ),
+        reply::Reading::Refused(k) => Pieces(4, k as u64, 0, 0, 0, 0, 0),
     }
 }
 
 // The error code of a reply.
-fn code(out: &mut [u8], at: usize, c: Code) -> usize
-    ensures { λ r. ⌜ PutsAll (codeTexts c) (now (out .entry)) at r (now (out .exit)) ⌝ }
+fn code(c: Code) -> Pieces
+    ensures { λ r. ⌜ r ≡ codePieces c ⌝ }
 {
     match c {
-        Code::Named { code: number, name } => {
-            let e = bench_say::byte(out, at, b"0 code ", number);
-            bench_say::small(out, e, b" name ", name)
-        }
-        Code::Number(number) => bench_say::byte(out, at, b"0 code ", number),
-        Code::Absent => bench_say::word(out, at, b"0 absent"),
-        Code::Refused(k) => bench_say::refusal(out, at, k),
+        Code::Named { code: number, name } => Pieces(0xF3, 0, 0x102, name as u64, 0, 0, number),
+        Code::Number(number) => Pieces(0xF3, 0, 0, 0, 0, 0, number),
+        Code::Absent => Pieces(0x111, 0, 0, 0, 0, 0, 0),
+        Code::Refused(k) => Pieces(4, k as u64, 0, 0, 0, 0, 0),
     }
 }
 
-// An event's type: its number, and its name.
-fn kind(out: &mut [u8], at: usize, t: EventType) -> usize
-    ensures { λ r. ⌜ PutsAll (kindTexts t) (now (out .entry)) at r (now (out .exit)) ⌝ }
+// A piece, and behind it an event's type: its number, and its name.
+fn kind(a: usize, x: u64, t: EventType) -> Pieces
+    ensures { λ r. ⌜ r ≡ kindPieces a x t ⌝ }
 {
     match t {
-        EventType::ButtonPress => bench_say::word(out, at, b" type 0 BUTTON_PRESS"),
-        EventType::ButtonHold => bench_say::word(out, at, b" type 1 BUTTON_HOLD"),
-        EventType::AbsoluteInput => bench_say::word(out, at, b" type 2 ABSOLUTE_INPUT"),
-        EventType::LevelChange => bench_say::word(out, at, b" type 3 LEVEL_CHANGE"),
-        EventType::GroupLevelChange => bench_say::word(out, at, b" type 4 GROUP_LEVEL_CHANGE"),
-        EventType::SceneChange => bench_say::word(out, at, b" type 5 SCENE_CHANGE"),
-        EventType::IsOccupied => bench_say::word(out, at, b" type 6 IS_OCCUPIED"),
-        EventType::IsUnoccupied => bench_say::word(out, at, b" type 7 IS_UNOCCUPIED"),
-        EventType::ColourChanged => bench_say::word(out, at, b" type 8 COLOUR_CHANGED"),
-        EventType::ProfileChanged => bench_say::word(out, at, b" type 9 PROFILE_CHANGED"),
-        EventType::Other(n) => {
-            let e = bench_say::small(out, at, b" type ", n);
-            bench_say::word(out, e, b" OTHER")
-        }
+        EventType::ButtonPress => Pieces(a, x, 0x01, 0, 0, 0, 0),
+        EventType::ButtonHold => Pieces(a, x, 0x11, 0, 0, 0, 0),
+        EventType::AbsoluteInput => Pieces(a, x, 0x21, 0, 0, 0, 0),
+        EventType::LevelChange => Pieces(a, x, 0x31, 0, 0, 0, 0),
+        EventType::GroupLevelChange => Pieces(a, x, 0x41, 0, 0, 0, 0),
+        EventType::SceneChange => Pieces(a, x, 0x51, 0, 0, 0, 0),
+        EventType::IsOccupied => Pieces(a, x, 0x61, 0, 0, 0, 0),
+        EventType::IsUnoccupied => Pieces(a, x, 0x71, 0, 0, 0, 0),
+        EventType::ColourChanged => Pieces(a, x, 0x81, 0, 0, 0, 0),
+        EventType::ProfileChanged => Pieces(a, x, 0x91, 0, 0, 0, 0),
+        EventType::Other(n) => Pieces(a, x, 0xA2, n as u64, 0xB1, 0, 0),
     }
 }
 
-fn instance(out: &mut [u8], at: usize, i: Instance) -> usize
-    ensures { λ r. ⌜ PutsAll (instanceTexts i) (now (out .entry)) at r (now (out .exit)) ⌝ }
+// How many bytes of data an event has, and its instance.
+fn instance(n: usize, i: Instance) -> Pieces
+    ensures { λ r. ⌜ r ≡ instancePieces n i ⌝ }
 {
     match i {
-        Instance::Number(n) => bench_say::small(out, at, b" instance ", n),
-        Instance::Absent => bench_say::word(out, at, b" instance absent"),
+        Instance::Number(k) => Pieces(0xE2, n as u64, 0x132, k as u64, 0, 0, 0),
+        Instance::Absent => Pieces(0xE2, n as u64, 0x141, 0, 0, 0, 0),
     }
 }
 
-// What reading an event datagram answers.
+// The refusal of an event datagram; of one that is accepted nothing.
+fn refused(d: event::Reading) -> Pieces
+    ensures { λ r. ⌜ r ≡ refusedPieces d ⌝ }
+{
+    match d {
+        event::Reading::Accepted(_) => Pieces(0, 0, 0, 0, 0, 0, 0),
+        event::Reading::Refused(k) => Pieces(4, k as u64, 0, 0, 0, 0, 0),
+    }
+}
+
+// An event datagram that is accepted.
 fn event(out: &mut [u8], at: usize, d: event::Reading) -> usize
-    ensures { λ r. ⌜ PutsAll (eventTexts d) (now (out .entry)) at r (now (out .exit)) ⌝ }
+    ensures { λ r. ⌜ PutsAll (eventRest d) (now (out .entry)) at r (now (out .exit)) ⌝ }
 {
     match d {
         event::Reading::Accepted(v) => {
@@ -86,21 +115,19 @@ fn event(out: &mut [u8], at: usize, d: event::Reading) -> usize
             let i = v.instance;
             let b = [mac.0, mac.1, mac.2, mac.3, mac.4, mac.5];
             let e = bench_say::run(out, at, b"0 mac", &b);
-            let f = bench_say::wide(out, e, b" target ", v.target);
-            let g = kind(out, f, t);
-            let h = bench_say::size(out, g, b" n ", v.n);
-            instance(out, h, i)
+            let f = put(out, e, kind(0x122, v.target as u64, t));
+            put(out, f, instance(v.n, i))
         }
-        event::Reading::Refused(k) => bench_say::refusal(out, at, k),
+        event::Reading::Refused(_) => at,
     }
 }
 
-fn count(out: &mut [u8], at: usize, w: Wrote) -> usize
-    ensures { λ r. ⌜ PutsAll (wroteTexts w) (now (out .entry)) at r (now (out .exit)) ⌝ }
+fn count(w: Wrote) -> Pieces
+    ensures { λ r. ⌜ r ≡ countPieces w ⌝ }
 {
     match w {
-        Wrote::Count(n) => bench_say::size(out, at, b"0 count ", n),
-        Wrote::Refused(k) => bench_say::refusal(out, at, k),
+        Wrote::Count(n) => Pieces(0x152, n as u64, 0, 0, 0, 0, 0),
+        Wrote::Refused(k) => Pieces(4, k as u64, 0, 0, 0, 0, 0),
     }
 }
 
@@ -108,22 +135,32 @@ fn count(out: &mut [u8], at: usize, w: Wrote) -> usize
 pub fn wrote(out: &mut [u8], at: usize, w: Wrote, before: &[u8], after: &[u8]) -> usize
     ensures { λ r. ⌜ PutsAll (bufferTexts w (now (before .entry)) (now (after .entry))) (now (out .entry)) at r (now (out .exit)) ⌝ }
 {
-    let e = count(out, at, w);
+    let e = put(out, at, count(w));
     let f = bench_say::run(out, e, b" before", before);
     bench_say::run(out, f, b" after", after)
+}
+
+// An answer but for an event's.
+fn answer(x: Read) -> Pieces
+    ensures { λ r. ⌜ r ≡ readPieces x ⌝ }
+{
+    match x {
+        Read::Reply(d) => reply(d),
+        Read::Code(c) => code(c),
+        Read::Event(d) => refused(d),
+        Read::Kind(t) => kind(0x161, 0, t),
+    }
 }
 
 // The answer of a call that reads.
 pub fn say(out: &mut [u8], at: usize, x: Read) -> usize
     ensures { λ r. ⌜ PutsAll (readTexts x) (now (out .entry)) at r (now (out .exit)) ⌝ }
 {
+    let e = put(out, at, answer(x));
     match x {
-        Read::Reply(d) => reply(out, at, d),
-        Read::Code(c) => code(out, at, c),
-        Read::Event(d) => event(out, at, d),
-        Read::Kind(t) => {
-            let e = bench_say::word(out, at, b"0");
-            kind(out, e, t)
-        }
+        Read::Reply(_) => e,
+        Read::Code(_) => e,
+        Read::Event(d) => event(out, e, d),
+        Read::Kind(_) => e,
     }
 }

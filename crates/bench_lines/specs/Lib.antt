@@ -1,2 +1,3 @@
 -- what the contracts cite
 pub mod Lines
+pub mod Shown

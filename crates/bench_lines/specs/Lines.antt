@@ -5,7 +5,8 @@ use lib.Dec.{ltb}
 use Rattle.refusal.specs.Test.{pick}
 use Rattle.text.specs.Text.{decimalOf}
 use Rattle.bench_words.specs.Words.{frontOf, partOf}
-use Rattle.bench_say.specs.Said.{text, runOf}
+use Rattle.words.specs.Words.{text}
+use Rattle.bench_say.specs.Said.{runOf}
 use Rattle.reader.specs.declared.Held.{Held}
 use Rattle.reader.specs.declared.Got.{Got}
 use Rattle.reader.specs.declared.Got.the-variants.{Nothing, Item as got·Item}
@@ -18,6 +19,10 @@ use Rattle.stream.specs.declared.Step.the-variants.{More, Item}
 -- "how many bytes it claims to hold / the bytes; 00 behind them"
 abbrev pub handedReader : ℕ → List ℕ → Held
 handedReader len s = record { bytes = frontOf 67 s; len = len }
+
+-- "nothing" behind the 0
+abbrev pub doneTexts : List (List ℕ)
+doneTexts = text "0" ∷ []
 
 -- "`item N count N bytes B B ..`", or a word
 abbrev pub gotTexts : List ℕ → Got → ℕ → List ℕ → List (List ℕ)

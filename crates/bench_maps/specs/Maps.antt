@@ -2,7 +2,7 @@
 use Prim.Native.Nat.{ℕ}
 use mathlib.Core.List.{List, [], _∷_}
 use Rattle.text.specs.Text.{decimalOf}
-use Rattle.bench_say.specs.Said.{text}
+use Rattle.words.specs.Words.{text}
 use Rattle.maps.specs.declared.Map16.{Map16}
 use Rattle.maps.specs.declared.Map16.the-variants.{Bits as bits16, Refused as refused16}
 use Rattle.maps.specs.declared.Map32.{Map32}

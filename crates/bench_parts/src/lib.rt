@@ -1,7 +1,10 @@
 // Parts of datagrams as the bench's answers. docs/BENCH.md, "Parts of datagrams". It leans on crate bench_say, and on crates
 // command, error and target for what is said.
+ghost use mathlib.Core.Path.{_≡_};
 ghost use Rattle.bench_say.specs.Said.{PutsAll};
-ghost use Rattle.bench_parts.specs.Parts.{knownTexts, ruleTexts, shapeTexts, fitTexts, nameTexts, lineTexts, deviceTexts, numberTexts, partTexts};
+ghost use Rattle.bench_parts.specs.Parts.{partTexts};
+ghost use Rattle.bench_parts.specs.Pieces.{knownKind, ruleKind, shapeKind, fitKind, namePieces, linePieces, devicePieces, numberPieces, partPieces};
+use bench_say::Pieces;
 use command::Rule;
 use command::Shape;
 use error::Name;
@@ -28,98 +31,110 @@ pub enum Part {
     Number(Numbered),
 }
 
+// The kinds of its pieces are the places of their names, which stand in `say`, and what stands behind them (crate bench_say).
 // Whether a command is known.
-fn known(out: &mut [u8], at: usize, yes: bool) -> usize
-    ensures { λ r. ⌜ PutsAll (knownTexts yes) (now (out .entry)) at r (now (out .exit)) ⌝ }
+fn known(yes: bool) -> usize
+    ensures { λ r. ⌜ r ≡ knownKind yes ⌝ }
 {
-    if yes {
-        bench_say::word(out, at, b"0 known")
-    } else {
-        bench_say::word(out, at, b"0 unknown")
-    }
+    if yes { 0x11 } else { 0x21 }
 }
 
-fn rule(out: &mut [u8], at: usize, k: Rule) -> usize
-    ensures { λ r. ⌜ PutsAll (ruleTexts k) (now (out .entry)) at r (now (out .exit)) ⌝ }
+fn rule(k: Rule) -> usize
+    ensures { λ r. ⌜ r ≡ ruleKind k ⌝ }
 {
     match k {
-        Rule::Group => bench_say::word(out, at, b"0 basic group"),
-        Rule::Emit => bench_say::word(out, at, b"0 basic emit"),
-        Rule::Bare => bench_say::word(out, at, b"0 basic bare"),
-        Rule::Timers => bench_say::word(out, at, b"0 basic timers"),
-        Rule::GroupScene => bench_say::word(out, at, b"0 basic group_scene"),
-        Rule::Channel => bench_say::word(out, at, b"0 basic channel"),
-        Rule::Filter => bench_say::word(out, at, b"0 basic filter"),
-        Rule::Query => bench_say::word(out, at, b"0 basic query"),
-        Rule::Gear => bench_say::word(out, at, b"0 basic gear"),
-        Rule::Inhibit => bench_say::word(out, at, b"0 basic inhibit"),
-        Rule::Scene => bench_say::word(out, at, b"0 basic scene"),
-        Rule::Level => bench_say::word(out, at, b"0 basic level"),
-        Rule::Lights => bench_say::word(out, at, b"0 basic lights"),
-        Rule::Address => bench_say::word(out, at, b"0 basic address"),
-        Rule::Status => bench_say::word(out, at, b"0 basic status"),
+        Rule::Group => 0x41,
+        Rule::Emit => 0x51,
+        Rule::Bare => 0x61,
+        Rule::Timers => 0x71,
+        Rule::GroupScene => 0x81,
+        Rule::Channel => 0x91,
+        Rule::Filter => 0xA1,
+        Rule::Query => 0xB1,
+        Rule::Gear => 0xC1,
+        Rule::Inhibit => 0xD1,
+        Rule::Scene => 0xE1,
+        Rule::Level => 0xF1,
+        Rule::Lights => 0x101,
+        Rule::Address => 0x111,
+        Rule::Status => 0x121,
     }
 }
 
 // The shape of a command, and its rule.
-fn shape(out: &mut [u8], at: usize, s: Shape) -> usize
-    ensures { λ r. ⌜ PutsAll (shapeTexts s) (now (out .entry)) at r (now (out .exit)) ⌝ }
+fn shape(s: Shape) -> usize
+    ensures { λ r. ⌜ r ≡ shapeKind s ⌝ }
 {
     match s {
-        Shape::Unknown => bench_say::word(out, at, b"0 unknown"),
-        Shape::Basic(k) => rule(out, at, k),
-        Shape::Unicast => bench_say::word(out, at, b"0 unicast"),
+        Shape::Unknown => 0x21,
+        Shape::Basic(k) => rule(k),
+        Shape::Unicast => 0x31,
     }
 }
 
 // Whether arguments fit.
-fn fits(out: &mut [u8], at: usize, f: Fit) -> usize
-    ensures { λ r. ⌜ PutsAll (fitTexts f) (now (out .entry)) at r (now (out .exit)) ⌝ }
+fn fits(f: Fit) -> usize
+    ensures { λ r. ⌜ r ≡ fitKind f ⌝ }
 {
     match f {
-        Fit::Fits => bench_say::word(out, at, b"0 fits"),
-        Fit::Outside => bench_say::word(out, at, b"0 outside"),
-        Fit::NoRule => bench_say::word(out, at, b"0 no rule"),
+        Fit::Fits => 0x131,
+        Fit::Outside => 0x141,
+        Fit::NoRule => 0x151,
     }
 }
 
 // The number of an error code's name.
-fn name(out: &mut [u8], at: usize, n: Name) -> usize
-    ensures { λ r. ⌜ PutsAll (nameTexts n) (now (out .entry)) at r (now (out .exit)) ⌝ }
+fn name(n: Name) -> Pieces
+    ensures { λ r. ⌜ r ≡ namePieces n ⌝ }
 {
     match n {
-        Name::Number(k) => bench_say::small(out, at, b"0 name ", k),
-        Name::Nothing => bench_say::word(out, at, b"0 none"),
+        Name::Number(k) => Pieces(0x162, k as u64, 0, 0, 0, 0, 0),
+        Name::Nothing => Pieces(0x171, 0, 0, 0, 0, 0, 0),
     }
 }
 
 // A group as a target on the line.
-fn on_line(out: &mut [u8], at: usize, t: OnLine) -> usize
-    ensures { λ r. ⌜ PutsAll (lineTexts t) (now (out .entry)) at r (now (out .exit)) ⌝ }
+fn on_line(t: OnLine) -> Pieces
+    ensures { λ r. ⌜ r ≡ linePieces t ⌝ }
 {
     match t {
-        OnLine::At(target) => bench_say::small(out, at, b"0 target ", target.0),
-        OnLine::Refused(k) => bench_say::refusal(out, at, k),
+        OnLine::At(target) => Pieces(0x182, target.0 as u64, 0, 0, 0, 0, 0),
+        OnLine::Refused(k) => Pieces(4, k as u64, 0, 0, 0, 0, 0),
     }
 }
 
 // The address of a control device, by its own number.
-fn device(out: &mut [u8], at: usize, d: Addressed) -> usize
-    ensures { λ r. ⌜ PutsAll (deviceTexts d) (now (out .entry)) at r (now (out .exit)) ⌝ }
+fn device(d: Addressed) -> Pieces
+    ensures { λ r. ⌜ r ≡ devicePieces d ⌝ }
 {
     match d {
-        Addressed::At(address) => bench_say::small(out, at, b"0 device ", address.0),
-        Addressed::Refused(k) => bench_say::refusal(out, at, k),
+        Addressed::At(address) => Pieces(0x192, address.0 as u64, 0, 0, 0, 0, 0),
+        Addressed::Refused(k) => Pieces(4, k as u64, 0, 0, 0, 0, 0),
     }
 }
 
 // A control device's own number, by its address.
-fn number(out: &mut [u8], at: usize, n: Numbered) -> usize
-    ensures { λ r. ⌜ PutsAll (numberTexts n) (now (out .entry)) at r (now (out .exit)) ⌝ }
+fn number(n: Numbered) -> Pieces
+    ensures { λ r. ⌜ r ≡ numberPieces n ⌝ }
 {
     match n {
-        Numbered::Own(own) => bench_say::small(out, at, b"0 number ", own),
-        Numbered::Refused(k) => bench_say::refusal(out, at, k),
+        Numbered::Own(own) => Pieces(0x1A2, own as u64, 0, 0, 0, 0, 0),
+        Numbered::Refused(k) => Pieces(4, k as u64, 0, 0, 0, 0, 0),
+    }
+}
+
+fn answer(p: Part) -> Pieces
+    ensures { λ r. ⌜ r ≡ partPieces p ⌝ }
+{
+    match p {
+        Part::Sum(b) => Pieces(0x03, 0, 0, 0, 0, 0, b),
+        Part::Known(yes) => Pieces(known(yes), 0, 0, 0, 0, 0, 0),
+        Part::Shape(s) => Pieces(shape(s), 0, 0, 0, 0, 0, 0),
+        Part::Fit(f) => Pieces(fits(f), 0, 0, 0, 0, 0, 0),
+        Part::Name(n) => name(n),
+        Part::OnLine(t) => on_line(t),
+        Part::Device(d) => device(d),
+        Part::Number(n) => number(n),
     }
 }
 
@@ -127,14 +142,13 @@ fn number(out: &mut [u8], at: usize, n: Numbered) -> usize
 pub fn say(out: &mut [u8], at: usize, p: Part) -> usize
     ensures { λ r. ⌜ PutsAll (partTexts p) (now (out .entry)) at r (now (out .exit)) ⌝ }
 {
-    match p {
-        Part::Sum(b) => bench_say::byte(out, at, b"0 sum ", b),
-        Part::Known(yes) => known(out, at, yes),
-        Part::Shape(s) => shape(out, at, s),
-        Part::Fit(f) => fits(out, at, f),
-        Part::Name(n) => name(out, at, n),
-        Part::OnLine(t) => on_line(out, at, t),
-        Part::Device(d) => device(out, at, d),
-        Part::Number(n) => number(out, at, n),
-    }
+    bench_say::put(
+        out,
+        at,
+        b"0 sum ,0 known,0 unknown,0 unicast,0 basic group,0 basic emit,0 basic bare,\
+0 basic timers,0 basic group_scene,0 basic channel,0 basic filter,0 basic query,\
+0 basic gear,0 basic inhibit,0 basic scene,0 basic level,0 basic lights,0 basic address,\
+0 basic status,0 fits,0 outside,0 no rule,0 name ,0 none,0 target ,0 device ,0 number ",
+        answer(p),
+    )
 }

@@ -2,7 +2,8 @@
 use Prim.Native.Nat.{ℕ}
 use mathlib.Core.List.{List, [], _∷_, _++_}
 use Rattle.text.specs.Text.{hexOf, decimalOf}
-use Rattle.bench_say.specs.Said.{text, runOf}
+use Rattle.words.specs.Words.{text}
+use Rattle.bench_say.specs.Said.{runOf}
 use Rattle.target.specs.declared.Target.{Target}
 use Rattle.target.specs.declared.Target.the-variants.{Gear as lit·Gear, Group as lit·Group, Broadcast, Nothing as lit·Nothing}
 use Rattle.meaning.specs.declared.Meaning.{Meaning}

@@ -1,11 +1,14 @@
 // A request's reading as the bench's answer. docs/BENCH.md, "Datagrams". It leans on crate bench_say, and on crates request,
 // meaning and target for what is said.
+ghost use mathlib.Core.Path.{_≡_};
 ghost use Rattle.bench_say.specs.Said.{PutsAll};
-ghost use Rattle.bench_requests.specs.Requests.{lightsTexts, meaningTexts, contentsTexts, requestTexts, readingTexts, askedTexts};
+ghost use Rattle.bench_say.specs.Pieces.{piecesTexts};
+ghost use Rattle.bench_requests.specs.Requests.{contentsTexts, askedTexts};
+ghost use Rattle.bench_requests.specs.Pieces.{names, lightsPieces, meaningPieces, headPieces, askedPieces, readingRest};
+use bench_say::Pieces;
 use meaning::Meaning;
 use request::Contents;
 use request::Reading;
-use request::Request;
 use target::Target;
 
 // What a call of this family answers.
@@ -14,74 +17,143 @@ pub enum Asked {
     Target(Target),
 }
 
-// What a target names: what is lit, or asked about.
-fn lights(out: &mut [u8], at: usize, l: Target) -> usize
-    ensures { λ r. ⌜ PutsAll (lightsTexts l) (now (out .entry)) at r (now (out .exit)) ⌝ }
+// The kinds of its pieces: the place of their names below, and whether a number (2), a byte (3) or nothing (1) stands behind.
+const NOTHING: usize = 0x01;
+
+const GROUP: usize = 0x12;
+
+const EMIT: usize = 0x22;
+
+const DEVICE: usize = 0x32;
+
+const INSTANCE: usize = 0x42;
+
+const SCENE: usize = 0x52;
+
+const UNIVERSE: usize = 0x62;
+
+const CHANNEL: usize = 0x72;
+
+const ADDRESS: usize = 0x82;
+
+const MASK: usize = 0x92;
+
+const START: usize = 0xA2;
+
+const GEAR: usize = 0xB2;
+
+const BROADCAST: usize = 0xC1;
+
+const NO_TARGET: usize = 0xD1;
+
+const SECONDS: usize = 0xE2;
+
+const LEVEL: usize = 0xF2;
+
+const SEQUENCE: usize = 0x102;
+
+const COMMAND: usize = 0x113;
+
+const PORT: usize = 0x122;
+
+const BLANK: usize = 0x132;
+
+const ZERO: usize = 0x141;
+
+fn put(out: &mut [u8], at: usize, p: Pieces) -> usize
+    ensures { λ r. ⌜ PutsAll (piecesTexts names p) (now (out .entry)) at r (now (out .exit)) ⌝ }
+{
+    bench_say::put(
+        out,
+        at,
+        b" nothing, group , emit , device , instance , scene , universe , channel , address , mask , \
+start , gear , broadcast, no target, seconds , level ,0 sequence , command , port , ,0",
+        p,
+    )
+}
+
+// A piece, what a target names (what is lit, or asked about), and a piece behind it.
+fn lights(a: usize, l: Target, c: usize, z: u64) -> Pieces
+    ensures { λ r. ⌜ r ≡ lightsPieces a l c z ⌝ }
 {
     match l {
-        Target::Gear(n) => bench_say::small(out, at, b" gear ", n),
-        Target::Group(g) => bench_say::small(out, at, b" group ", g.0),
-        Target::Broadcast => bench_say::word(out, at, b" broadcast"),
-        Target::Nothing => bench_say::word(out, at, b" no target"),
+        Target::Gear(n) => Pieces(a, 0, GEAR, n as u64, c, z, 0),
+        Target::Group(g) => Pieces(a, 0, GROUP, g.0 as u64, c, z, 0),
+        Target::Broadcast => Pieces(a, 0, BROADCAST, 0, c, z, 0),
+        Target::Nothing => Pieces(a, 0, NO_TARGET, 0, c, z, 0),
     }
 }
 
 // What the arguments of a basic request mean.
-fn meaning(out: &mut [u8], at: usize, m: Meaning) -> usize
-    ensures { λ r. ⌜ PutsAll (meaningTexts m) (now (out .entry)) at r (now (out .exit)) ⌝ }
+fn meaning(m: Meaning) -> Pieces
+    ensures { λ r. ⌜ r ≡ meaningPieces m ⌝ }
 {
     match m {
-        Meaning::Nothing => bench_say::word(out, at, b" nothing"),
-        Meaning::Group(g) => bench_say::small(out, at, b" group ", g.0),
-        Meaning::Emit(a) => bench_say::small(out, at, b" emit ", a),
-        Meaning::Timers { device, instance } => {
-            let e = bench_say::small(out, at, b" device ", device.0);
-            bench_say::small(out, e, b" instance ", instance)
-        }
-        Meaning::GroupScene { group, scene } => {
-            let e = bench_say::small(out, at, b" group ", group.0);
-            bench_say::small(out, e, b" scene ", scene)
-        }
-        Meaning::Channel { universe, channel } => {
-            let e = bench_say::small(out, at, b" universe ", universe);
-            bench_say::middle(out, e, b" channel ", channel)
-        }
+        Meaning::Nothing => Pieces(NOTHING, 0, 0, 0, 0, 0, 0),
+        Meaning::Group(g) => Pieces(GROUP, g.0 as u64, 0, 0, 0, 0, 0),
+        Meaning::Emit(a) => Pieces(EMIT, a as u64, 0, 0, 0, 0, 0),
+        Meaning::Timers { device, instance } => Pieces(
+            DEVICE,
+            device.0 as u64,
+            INSTANCE,
+            instance as u64,
+            0,
+            0,
+            0,
+        ),
+        Meaning::GroupScene { group, scene } => Pieces(
+            GROUP,
+            group.0 as u64,
+            SCENE,
+            scene as u64,
+            0,
+            0,
+            0,
+        ),
+        Meaning::Channel { universe, channel } => Pieces(
+            UNIVERSE,
+            universe as u64,
+            CHANNEL,
+            channel as u64,
+            0,
+            0,
+            0,
+        ),
         Meaning::Filter {
             address,
             instance,
             mask,
-        } => {
-            let e = bench_say::small(out, at, b" address ", address);
-            let f = bench_say::small(out, e, b" instance ", instance);
-            bench_say::middle(out, f, b" mask ", mask)
-        }
+        } => Pieces(
+            ADDRESS,
+            address as u64,
+            INSTANCE,
+            instance as u64,
+            MASK,
+            mask as u64,
+            0,
+        ),
         Meaning::Query {
             address,
             start,
             instance,
-        } => {
-            let e = bench_say::small(out, at, b" address ", address);
-            let f = bench_say::small(out, e, b" start ", start);
-            bench_say::small(out, f, b" instance ", instance)
-        }
-        Meaning::Gear(a) => bench_say::small(out, at, b" gear ", a),
+        } => Pieces(
+            ADDRESS,
+            address as u64,
+            START,
+            start as u64,
+            INSTANCE,
+            instance as u64,
+            0,
+        ),
+        Meaning::Gear(a) => Pieces(GEAR, a as u64, 0, 0, 0, 0, 0),
         Meaning::Inhibit {
             target: lit,
             seconds,
-        } => {
-            let e = lights(out, at, lit);
-            bench_say::middle(out, e, b" seconds ", seconds)
-        }
-        Meaning::Scene { target: lit, scene } => {
-            let e = lights(out, at, lit);
-            bench_say::small(out, e, b" scene ", scene)
-        }
-        Meaning::Level { target: lit, level } => {
-            let e = lights(out, at, lit);
-            bench_say::small(out, e, b" level ", level)
-        }
-        Meaning::Lit(lit) => lights(out, at, lit),
-        Meaning::Target(asked) => lights(out, at, asked),
+        } => lights(0, lit, SECONDS, seconds as u64),
+        Meaning::Scene { target: lit, scene } => lights(0, lit, SCENE, scene as u64),
+        Meaning::Level { target: lit, level } => lights(0, lit, LEVEL, level as u64),
+        Meaning::Lit(lit) => lights(0, lit, 0, 0),
+        Meaning::Target(asked) => lights(0, asked, 0, 0),
     }
 }
 
@@ -95,34 +167,60 @@ fn contents(out: &mut [u8], at: usize, c: Contents) -> usize
         } => {
             let b = [arguments.a, arguments.b, arguments.c, arguments.d];
             let e = bench_say::run(out, at, b" arguments", &b);
-            meaning(out, e, said)
+            put(out, e, meaning(said))
         }
         Contents::Unicast { port, address } => {
-            let e = bench_say::middle(out, at, b" port ", port);
-            let f = bench_say::small(out, e, b" address ", address.0);
-            let g = bench_say::small(out, f, b" ", address.1);
-            let h = bench_say::small(out, g, b" ", address.2);
-            bench_say::small(out, h, b" ", address.3)
+            let e = put(
+                out,
+                at,
+                Pieces(
+                    PORT,
+                    port as u64,
+                    ADDRESS,
+                    address.0 as u64,
+                    BLANK,
+                    address.1 as u64,
+                    0,
+                ),
+            );
+            put(
+                out,
+                e,
+                Pieces(BLANK, address.2 as u64, BLANK, address.3 as u64, 0, 0, 0),
+            )
         }
     }
 }
 
-fn accepted(out: &mut [u8], at: usize, q: Request) -> usize
-    ensures { λ r. ⌜ PutsAll (requestTexts q) (now (out .entry)) at r (now (out .exit)) ⌝ }
-{
-    let e = bench_say::small(out, at, b"0 sequence ", q.sequence);
-    let f = bench_say::byte(out, e, b" command ", q.command);
-    let c = q.contents;
-    contents(out, f, c)
-}
-
-// What reading a request datagram answers.
-fn reading(out: &mut [u8], at: usize, r: Reading) -> usize
-    ensures { λ e. ⌜ PutsAll (readingTexts r) (now (out .entry)) at e (now (out .exit)) ⌝ }
+// How the answer of a reading begins.
+fn head(r: Reading) -> Pieces
+    ensures { λ p. ⌜ p ≡ headPieces r ⌝ }
 {
     match r {
-        Reading::Accepted(q) => accepted(out, at, q),
-        Reading::Refused(k) => bench_say::refusal(out, at, k),
+        Reading::Accepted(q) => Pieces(SEQUENCE, q.sequence as u64, COMMAND, 0, 0, 0, q.command),
+        Reading::Refused(k) => Pieces(4, k as u64, 0, 0, 0, 0, 0),
+    }
+}
+
+fn answer(a: Asked) -> Pieces
+    ensures { λ p. ⌜ p ≡ askedPieces a ⌝ }
+{
+    match a {
+        Asked::Reading(r) => head(r),
+        Asked::Target(l) => lights(ZERO, l, 0, 0),
+    }
+}
+
+// The contents of a request that is accepted.
+fn accepted(out: &mut [u8], at: usize, r: Reading) -> usize
+    ensures { λ e. ⌜ PutsAll (readingRest r) (now (out .entry)) at e (now (out .exit)) ⌝ }
+{
+    match r {
+        Reading::Accepted(q) => {
+            let c = q.contents;
+            contents(out, at, c)
+        }
+        Reading::Refused(_) => at,
     }
 }
 
@@ -130,11 +228,9 @@ fn reading(out: &mut [u8], at: usize, r: Reading) -> usize
 pub fn say(out: &mut [u8], at: usize, a: Asked) -> usize
     ensures { λ e. ⌜ PutsAll (askedTexts a) (now (out .entry)) at e (now (out .exit)) ⌝ }
 {
+    let e = put(out, at, answer(a));
     match a {
-        Asked::Reading(r) => reading(out, at, r),
-        Asked::Target(l) => {
-            let e = bench_say::word(out, at, b"0");
-            lights(out, e, l)
-        }
+        Asked::Reading(r) => accepted(out, e, r),
+        Asked::Target(_) => e,
     }
 }

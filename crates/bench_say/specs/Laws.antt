@@ -1,5 +1,5 @@
 -- How texts put one after the other come together.
-use Prim.Native.Nat.{ℕ, suc, _+_, _<_, _≤_}
+use Prim.Native.Nat.{ℕ, _+_, _<_, _≤_}
 use mathlib.Core.Path.{_≡_, refl, sym, ap, ap₂, _∙_}
 use mathlib.Core.List.{List, [], _∷_, _++_}
 use lib.ListN.{length, getD, drop, drop-of-length-le}
@@ -36,6 +36,13 @@ pub puts-append : {ts us : List (List ℕ)} {out o p : List ℕ} {at m r : ℕ} 
 puts-append {ts} {us} {out} {o} {p} {at} a b = record {
   says = b .says ∙ ap₂ (λ (x : List ℕ) (y : ℕ). placeAll us x y) (a .leaves) (a .says) ∙ sym (place-append ts us out at);
   leaves = b .leaves ∙ ap₂ (λ (x : List ℕ) (y : ℕ). bufferAll us x y) (a .leaves) (a .says) ∙ sym (buffer-append ts us out at);
+}
+
+-- the same texts, said another way
+pub puts-same : {ts us : List (List ℕ)} {out p : List ℕ} {at r : ℕ} → ts ≡ us → PutsAll ts out at r p → PutsAll us out at r p
+puts-same {ts} {us} {out} {p} {at} {r} e a = record {
+  says = a .says ∙ ap (λ (x : List (List ℕ)). placeAll x out at) e;
+  leaves = a .leaves ∙ ap (λ (x : List (List ℕ)). bufferAll x out at) e;
 }
 
 -- a byte more of a run, and its end

@@ -1,16 +1,9 @@
 -- Texts put one behind the other into a lent buffer, each where it has room.
 use Prim.Native.Nat.{ℕ}
-use Prim.Native.Char.{code}
-use Prim.Native.String.{String, [] as none, _∷_ as _then_}
 use mathlib.Core.Path.{_≡_, sym, _∙_}
 use mathlib.Core.List.{List, [], _∷_}
 use Rattle.text.specs.Text.{hexOf}
 use Rattle.lent.specs.Puts.{placeAfter, bufferAfter}
-
--- a quoted text as its bytes, in ASCII
-abbrev pub text : String → List ℕ
-text none = []
-text (c then s) = code c ∷ text s
 
 -- the place behind the last text
 unfoldable pub placeAll : List (List ℕ) → List ℕ → ℕ → ℕ

@@ -1,6 +1,6 @@
 -- docs/BENCH.md, "A line": "What follows are groups of bytes. A byte is two hexadecimal digits, capitals or not. `/` ends a group and begins
 -- the next."
-use Prim.Native.Nat.{ℕ, zero, suc, _+_, _-_, _*_, _≤_}
+use Prim.Native.Nat.{ℕ, zero, _+_, _-_, _*_, _≤_}
 use mathlib.Core.Path.{_≡_, sym, _∙_}
 use mathlib.Core.List.{List, [], _∷_, _++_}
 use lib.ListN.{length, getD, take, drop}

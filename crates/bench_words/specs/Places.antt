@@ -1,30 +1,18 @@
 -- Laws of places: where a search stands, and the words behind it.
 use Prim.Native.Nat.{ℕ, zero, suc, _+_, _-_, _≤_, _<_}
-use mathlib.Core.Path.{_≡_, refl, sym, ap, ap₂, _∙_}
+use mathlib.Core.Path.{_≡_, sym, ap, _∙_}
 use mathlib.Core.Bool.{Bool, true, false}
-use mathlib.Core.List.{List, [], _∷_, _++_}
-use lib.ListN.{length, getD, take, drop, set, length-drop, drop-of-length-le}
+use mathlib.Core.List.{List, [], _∷_}
+use lib.ListN.{length, getD, take, drop, set, drop-of-length-le}
 use lib.Seq.{drop-cons, take-suc-set, take-length}
-use lib.Dec.{eqb, leb}
-use borrow.Author.Tests.{le-leb, lt-leb, eq-eqb, ne-eqb}
+use lib.Dec.{eqb}
+use borrow.Author.Tests.{eq-eqb, ne-eqb}
 use native.Mathlib.Numerals.{add-one}
 use native.Mathlib.Omega.{arith}
 use Rattle.refusal.specs.Test.{pick}
-use Rattle.bench_words.specs.Words.{before, blanks, frontOf}
+use Rattle.bench_words.specs.Words.{blanks, frontOf}
 
--- a search from a place on: one byte further, or found, or at the end
-pub before-on : (b : ℕ) (s : List ℕ) (i : ℕ) → i < length s → (getD s i 0 ≡ b → ⊥) → before b (drop i s) ≡ suc (before b (drop (i + 1) s))
-unfolding before
-before-on b s i h n = rw (add-one, drop-cons s i 0, ne-eqb (getD s i 0) b n)
-
-pub before-here : (b : ℕ) (s : List ℕ) (i : ℕ) → i < length s → getD s i 0 ≡ b → before b (drop i s) ≡ 0
-unfolding before
-before-here b s i h e = rw (drop-cons s i 0, eq-eqb (getD s i 0) b e)
-
-pub before-end : (b : ℕ) (s : List ℕ) (i : ℕ) → length s ≤ i → before b (drop i s) ≡ 0
-unfolding before
-before-end b s i h = rw (drop-of-length-le s h)
-
+-- a search for the first place without a blank: one byte further, or found, or at the end
 pub blanks-on : (s : List ℕ) (i : ℕ) → i < length s → getD s i 0 ≡ 32 → blanks (drop i s) ≡ suc (blanks (drop (i + 1) s))
 unfolding blanks
 blanks-on s i h e = rw (add-one, drop-cons s i 0, eq-eqb (getD s i 0) 32 e)
@@ -38,15 +26,6 @@ unfolding blanks
 blanks-end s i h = rw (drop-of-length-le s h)
 
 -- never behind the end
-pub before-most : (b : ℕ) (s : List ℕ) → before b s ≤ length s
-unfolding before
-before-most b [] = omega arith
-before-most b (c ∷ s) = go (eqb c b) (before-most b s)
-  where
-    go : (t : Bool) → before b s ≤ length s → pick t 0 (suc (before b s)) ≤ suc (length s)
-    go true h = omega arith
-    go false h = omega arith
-
 pub blanks-most : (s : List ℕ) → blanks s ≤ length s
 unfolding blanks
 blanks-most [] = omega arith
@@ -55,10 +34,6 @@ blanks-most (c ∷ s) = go (eqb c 32) (blanks-most s)
     go : (t : Bool) → blanks s ≤ length s → pick t (suc (blanks s)) 0 ≤ suc (length s)
     go true h = omega arith
     go false h = omega arith
-
--- where a search from a place on ends
-pub until-within : (b : ℕ) (s : List ℕ) (i e : ℕ) → i ≤ length s → e ≡ i + before b (drop i s) → (i ≤ e) × (e ≤ length s)
-until-within b s i e h q = (omega arith, omega (arith, before-most b (drop i s), length-drop i s))
 
 -- a front put down byte by byte: one byte more, and all of it
 pub front-turn : (n : ℕ) (s b : List ℕ) → n < length b → take n b ≡ frontOf n s → take (n + 1) (set b n (getD s n 0)) ≡ frontOf (n + 1) s

@@ -10,7 +10,8 @@ use borrow.Author.Tests.{le-leb, lt-leb, leb-true, leb-false}
 use native.Mathlib.Numerals.{add-one}
 use native.Mathlib.Omega.{arith}
 use Rattle.refusal.specs.Test.{pick}
-use Rattle.bench_words.specs.Words.{before, wordsFrom, wordsAt}
+use Rattle.words.specs.Words.{before}
+use Rattle.bench_words.specs.Words.{wordsFrom, wordsAt}
 use Rattle.bench_words.specs.Groups.{wordOf, Taken, groups, other, byteMore, allMore, takenOf, keptOf, filled, Grows, Reads}
 use Rattle.bench_words.specs.declared.Word.the-variants.{Nothing, Slash, Byte, Other}
 use Rattle.bench_words.specs.declared.Groups.{Groups}

@@ -1,16 +1,11 @@
 -- docs/BENCH.md, "A line": words, and the places where they begin and end.
 use Prim.Native.Nat.{ℕ, zero, suc, _+_, _-_, _*_}
-use mathlib.Core.Bool.{_||_}
 use mathlib.Core.List.{List, [], _∷_, _++_}
 use lib.ListN.{length, getD, take, drop}
 use lib.Dec.{eqb, ltb, leb}
 use Rattle.refusal.specs.Test.{pick}
 
--- how many bytes stand before the first byte b, and how many blanks stand in front
-unfoldable pub before : ℕ → List ℕ → ℕ
-before b [] = 0
-before b (c ∷ s) = pick (eqb c b) 0 (suc (before b s))
-
+-- how many blanks stand in front
 unfoldable pub blanks : List ℕ → ℕ
 blanks [] = 0
 blanks (c ∷ s) = pick (eqb c 32) (suc (blanks s)) 0

@@ -1,10 +1,10 @@
-// The words of a bench line, and the groups of bytes that they say. docs/BENCH.md, "A line". It leans on crate refusal for
-// the words of a test.
-ghost use Prim.Native.Nat.{_+_, _*_, _<_, _≤_};
+// The words of a bench line, and the groups of bytes that they say. docs/BENCH.md, "A line". It leans on
+// crate words, and on crate refusal for the words of a test.
+ghost use Prim.Native.Nat.{_+_, _*_, _≤_};
 ghost use mathlib.Core.Path.{_≡_};
-ghost use lib.ListN.{length, getD, drop};
+ghost use lib.ListN.{length, getD};
 ghost use denote.Ref.{ptr};
-ghost use Rattle.bench_words.specs.Words.{before, blanks, startOf, partOf, wideOf};
+ghost use Rattle.bench_words.specs.Words.{blanks, startOf, partOf, wideOf};
 ghost use Rattle.bench_words.specs.Groups.{digitOf, wordOf, Grows, Reads};
 
 // The groups of a line. The bytes of all of them stand in one run: the first group ends at a, the second at b, the third at
@@ -28,20 +28,6 @@ enum Word {
     Slash,
     Byte(u8),
     Other,
-}
-
-// The first place from a place on where a byte stands, or the run's end.
-pub fn until(s: &[u8], from: usize, b: u8) -> usize
-    ensures { λ r. ⌜ r ≡ from + before b (drop from (now (s .entry))) ⌝ }
-{
-    let mut i = from;
-    while i < s.len() {
-        if s[i] == b {
-            return i;
-        }
-        i += 1;
-    }
-    i
 }
 
 // The first place that holds no blank, or the run's end.
@@ -220,7 +206,7 @@ pub fn parse(line: &[u8], from: usize, bytes: &mut [u8]) -> Parsed
     };
     let mut i = from;
     while i <= line.len() {
-        let e = until(line, i, b' ');
+        let e = words::until(line, i, b' ');
         let next = grown(g, bytes, &line[i..e]);
         match next {
             Parsed::NotAByte => return Parsed::NotAByte,

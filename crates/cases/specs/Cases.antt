@@ -7,7 +7,7 @@ use Rattle.sum.specs.Sum.{sumFrom}
 use Rattle.order.specs.Order.{numberBy}
 use Rattle.target.specs.Target.{broadcast}
 use Rattle.command.specs.Command.{shapeOf}
-use Rattle.command.specs.Arguments.{fits}
+use Rattle.ranges.specs.Arguments.{fits}
 use Rattle.meaning.specs.Meaning.{group, filter, timers, scene, meaningOf}
 use Rattle.request.specs.Said.{Heard, heard, arguments, address}
 use Rattle.request.specs.Reading.{readBasic, readUnicast, readRequest}

@@ -2,15 +2,9 @@
 // Document 01, "Requests and their argument ranges".
 ghost use mathlib.Core.Path.{_≡_};
 ghost use Rattle.command.specs.Command.{numbersOf, numbersIn, isKnown, mayAsk};
-ghost use Rattle.command.specs.Arguments.{fits as fitsOf};
-use target::BASE;
-use target::LAST_DEVICE;
-use target::LAST_GEAR;
-use target::LAST_GROUP;
-use target::LAST_TARGET;
-use target::STATUS_BROADCAST;
 
-// The rule of a basic request's four arguments, named for what they say. The commands that have it stand beside it.
+// The rule of a basic request's four arguments, named for what they say; crate ranges has the ranges. The commands that have it stand
+// beside it.
 pub enum Rule {
     // 01, 1A
     Group,
@@ -105,50 +99,4 @@ pub fn may_ask(command: u8) -> bool
     ensures { λ r. ⌜ r ≡ mayAsk command ⌝ }
 {
     known(command)
-}
-
-// "scene 0–12", "instance 0–31", "B start 0–63"
-const LAST_SCENE: u8 = 12;
-
-const LAST_INSTANCE: u8 = 31;
-
-const LAST_START: u8 = 63;
-
-// "A has no bits outside C3"
-const EMIT: u8 = 0xC3;
-
-// "B = 255", "D is 255", "A .. or 255": no instance, or no address, is meant.
-const ANY: u8 = 255;
-
-// Whether four arguments are within the ranges of a rule.
-pub fn fits(rule: Rule, a: u8, b: u8, c: u8, d: u8) -> bool
-    ensures { λ r. ⌜ r ≡ fitsOf rule a b c d ⌝ }
-{
-    match rule {
-        Rule::Group => (a <= LAST_GROUP) & (b == 0) & (c == 0) & (d == 0),
-        Rule::Emit => ((a | EMIT) == EMIT) & (b == 0) & (c == 0) & (d == 0),
-        Rule::Bare => (a == 0) & (b == 0) & (c == 0) & (d == 0),
-        Rule::Timers => ((BASE <= a) & (a <= LAST_DEVICE))
-            & (b == 0)
-            & (c == 0)
-            & (d <= LAST_INSTANCE),
-        Rule::GroupScene => (a <= LAST_GROUP) & (b <= LAST_SCENE) & (c == 0) & (d == 0),
-        Rule::Channel => a == 0,
-        Rule::Filter => ((a <= LAST_GEAR) & (b == ANY))
-            | (((BASE <= a) & (a <= LAST_DEVICE)) & (b <= LAST_INSTANCE)),
-        Rule::Query => (b <= LAST_START)
-            & (c == 0)
-            & ((((a <= LAST_GEAR) | (a == ANY)) & (d == ANY))
-                | (((BASE <= a) & (a <= LAST_DEVICE)) & ((d <= LAST_INSTANCE) | (d == ANY)))),
-        Rule::Gear => (a <= LAST_GEAR) & (b == 0) & (c == 0) & (d == 0),
-        Rule::Inhibit => target::is_lighting(a) & (b == 0),
-        Rule::Scene => target::is_lighting(a) & (b == 0) & (c == 0) & (d <= LAST_SCENE),
-        Rule::Level => target::is_lighting(a) & (b == 0) & (c == 0),
-        Rule::Lights => target::is_lighting(a) & (b == 0) & (c == 0) & (d == 0),
-        Rule::Address => (a <= LAST_TARGET) & (b == 0) & (c == 0) & (d == 0),
-        Rule::Status => ((a <= LAST_TARGET) | (a == STATUS_BROADCAST))
-            & (b == 0)
-            & (c == 0)
-            & (d == 0),
-    }
 }

@@ -5,7 +5,7 @@ use mathlib.Core.List.{List}
 use lib.ListN.{take, drop}
 use Rattle.refusal.specs.Answer.{full}
 use Rattle.sum.specs.Bytes.{Bytes}
-use Rattle.event.specs.Types.{kindNumber}
+use Rattle.event_type.specs.Types.{kindNumber}
 use Rattle.event.specs.Layout.{dataAt}
 use Rattle.event.specs.Reading.{Told, readEvent}
 use Rattle.event.specs.Writing.{eventFrame}

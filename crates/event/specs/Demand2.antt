@@ -10,7 +10,7 @@ use borrow.Author.Tests.{leb-true, ltb-true, eqb-true, not-true}
 use native.Mathlib.Omega.{arith}
 use Rattle.refusal.specs.Test.{both-left, both-right}
 use Rattle.refusal.specs.Answer.{Answer, full, demand-elim, full-one}
-use Rattle.lead.specs.Lead.{isEvent, eventData}
+use Rattle.lead.specs.Lead.{eventFirst, eventSecond, isEvent, eventData}
 use Rattle.sum.specs.Bytes.{Bytes, bytes-none, bytes-cons, bytes-append, bytes-head, bytes-tail, bytes-take, bytes-drop}
 use Rattle.sum.specs.Sum.{sumOf}
 use Rattle.frame.specs.Demand2 as family
@@ -19,12 +19,13 @@ use Rattle.frame.specs.Frame.{byte, sealed, sealed-sum, sealed-bytes, listed, l
 use Rattle.order.specs.Order.{highFirst, numberIn}
 use Rattle.order.specs.Big.{bigBytes}
 use Rattle.order.specs.Numbers.{length-big, big-are-bytes, number-of-bytes, bytes-of-number, number-below}
-use Rattle.event.specs.Types.{lacks}
+use Rattle.event_type.specs.Types.{lacks}
+use Rattle.event_type.specs.Laws.{number-kept}
 use Rattle.event.specs.Layout.{Fields, event, InRange, event-fits, macBytes, front, head, layout}
 use Rattle.event.specs.Layout.{targetAt, typeAt, countAt, dataAt, least}
 use Rattle.event.specs.Reading.{Told, macOf, eventIn, readEvent, fieldsOf}
 use Rattle.event.specs.Writing.{eventFrame}
-use Rattle.event.specs.Fits.{number-kept, accepts, frames}
+use Rattle.event.specs.Fits.{accepts, frames}
 use Rattle.event.specs.declared.Mac.{Mac}
 
 abbrev pub frameOf : ℕ → Fields → Answer (List ℕ)
@@ -48,7 +49,7 @@ module _ (w : ℕ) (m : Mac) (t k : ℕ) (l : List ℕ)
 
   -- the bytes in start of the type
   start : List ℕ
-  start = 0x5A ∷ 0x43 ∷ m .0 ∷ m .1 ∷ m .2 ∷ m .3 ∷ m .4 ∷ m .5 ∷ bigBytes w t
+  start = eventFirst ∷ eventSecond ∷ m .0 ∷ m .1 ∷ m .2 ∷ m .3 ∷ m .4 ∷ m .5 ∷ bigBytes w t
 
   start-long : length start ≡ typeAt w
   unfolding start
@@ -111,7 +112,7 @@ read-written w (event m t k l) d =
 in-range-written : (w : ℕ) (f : Fields) → InRange w f → frameOf w f ≡ full (layout w f)
 in-range-written w (event m t k l) (event-fits h₄ h₇ i a b) = frames w m t k l h₄ h₇ i
 
-first-two : {a b : ℕ} {l : List ℕ} → a ≡ 0x5A → b ≡ 0x43 → _≡_ {A = List ℕ} (a ∷ b ∷ l) (0x5A ∷ 0x43 ∷ l)
+first-two : {a b : ℕ} {l : List ℕ} → a ≡ eventFirst → b ≡ eventSecond → _≡_ {A = List ℕ} (a ∷ b ∷ l) (eventFirst ∷ eventSecond ∷ l)
 first-two p q = cc
 
 mac-bytes : (d : List ℕ) → Bytes d → Bytes (macBytes (macOf d))
@@ -120,7 +121,7 @@ mac-bytes d bs =
     bytes-cons (w 2) (bytes-cons (w 3) (bytes-cons (w 4) (bytes-cons (w 5) (bytes-cons (w 6) (bytes-cons (w 7) bytes-none)))))
 
 -- the bytes of a datagram in front of its data, one by one
-module _ (w : ℕ) (d : List ℕ) (bs : Bytes d) (z : byte 0 d ≡ 0x5A) (c : byte 1 d ≡ 0x43) (room : dataAt w ≤ length d) where
+module _ (w : ℕ) (d : List ℕ) (bs : Bytes d) (z : byte 0 d ≡ eventFirst) (c : byte 1 d ≡ eventSecond) (room : dataAt w ≤ length d) where
   target-bytes : Bytes (listed targetAt w d)
   target-bytes = rw (listed-take targetAt w d (omega arith)) at (bytes-take w (drop targetAt d) (bytes-drop targetAt d bs))
 
@@ -130,14 +131,14 @@ module _ (w : ℕ) (d : List ℕ) (bs : Bytes d) (z : byte 0 d ≡ 0x5A) (c : by
   front-listed :
       listed 0 (dataAt w) d ≡ front w (macOf d) (numberIn highFirst w (listed targetAt w d)) (byte (typeAt w) d) (byte (countAt w) d)
   front-listed =
-      let e : dataAt w ≡ 8 + (w + 2) = omega arith in
+      let e : dataAt w ≡ targetAt + (w + 2) = omega arith in
       let g : List ℕ = listed targetAt w d in
-      let n : List ℕ = listed (8 + w) 2 d in
+      let n : List ℕ = listed (typeAt w) 2 d in
       ap (λ (n : ℕ). listed 0 n d) e
-      ∙ listed-append 0 8 (w + 2) d
-      ∙ ap (λ (l : List ℕ). listed 0 8 d ++ l) (listed-append 8 w 2 d)
-      ∙ sym (append-assoc (listed 0 8 d) g n)
-      ∙ ap (λ (l : List ℕ). (listed 0 8 d ++ l) ++ n) (sym target-back)
+      ∙ listed-append 0 targetAt (w + 2) d
+      ∙ ap (λ (l : List ℕ). listed 0 targetAt d ++ l) (listed-append targetAt w 2 d)
+      ∙ sym (append-assoc (listed 0 targetAt d) g n)
+      ∙ ap (λ (l : List ℕ). (listed 0 targetAt d ++ l) ++ n) (sym target-back)
       ∙ first-two z c
 
 -- an accepted datagram is a frame: the fields that it gives are in range, and it is their layout
@@ -158,8 +159,8 @@ accepted-frame w d r bs =
     let l : List ℕ = take n (drop (dataAt w) d) in
     let long = eqb-true (length d) (n + least w) h₅ in
     let room : dataAt w ≤ length d = omega arith in
-    let z = eqb-true (byte 0 d) 0x5A (both-left (eqb (byte 0 d) 0x5A) (eqb (byte 1 d) 0x43) h₂) in
-    let c = eqb-true (byte 1 d) 0x43 (both-right (eqb (byte 0 d) 0x5A) (eqb (byte 1 d) 0x43) h₂) in
+    let z = eqb-true (byte 0 d) eventFirst (both-left (eqb (byte 0 d) eventFirst) (eqb (byte 1 d) eventSecond) h₂) in
+    let c = eqb-true (byte 1 d) eventSecond (both-right (eqb (byte 0 d) eventFirst) (eqb (byte 1 d) eventSecond) h₂) in
     let size : length l ≡ n = simp (length-take, length-drop) (omega arith) in
     let short : length l ≤ eventData = omega (arith, leb-true n eventData h₄) in
     let small : t < 256 ^ w = number-below w (listed targetAt w d) (length-listed targetAt w d) (target-bytes w d bs z c room) in
@@ -175,8 +176,8 @@ frame-bytes : (w : ℕ) (f : Fields) → InRange w f → Bytes (layout w f)
 frame-bytes w (event m t k l) (event-fits h₄ h₇ i a b) =
     sealed-bytes
     (bytes-append (front w m t k (length l))
-    (bytes-append ((0x5A ∷ 0x43 ∷ macBytes m) ++ bigBytes w t)
-    (bytes-append (0x5A ∷ 0x43 ∷ macBytes m) (bytes-cons (omega arith) (bytes-cons (omega arith) a)) (big-are-bytes w t))
+    (bytes-append ((eventFirst ∷ eventSecond ∷ macBytes m) ++ bigBytes w t)
+    (bytes-append (eventFirst ∷ eventSecond ∷ macBytes m) (bytes-cons (omega arith) (bytes-cons (omega arith) a)) (big-are-bytes w t))
     (bytes-cons (bytes-head b) (bytes-cons {b = length l} (omega arith) bytes-none)))
     (bytes-tail b))
 

@@ -1,4 +1,4 @@
--- What is known of a type's number, of a datagram and of fields that meet every demand, and of a datagram that was accepted.
+-- What is known of a datagram and of fields that meet every demand, and of a datagram that was accepted.
 use Prim.Native.Nat.{ℕ, _+_, _^_, _≤_, _<_}
 use mathlib.Core.Path.{_≡_, refl, ap}
 use mathlib.Core.Bool.{Bool, true, false, not}
@@ -7,24 +7,15 @@ use lib.ListN.{length}
 use lib.Dec.{leb, ltb, eqb}
 use borrow.Author.Tests.{leb-true, eqb-true, le-leb, lt-ltb, eq-eqb}
 use native.Mathlib.Omega.{arith}
-use Rattle.refusal.specs.Test.{pick}
 use Rattle.refusal.specs.Answer.{refused, full, demand, demand-elim, full-one}
 use Rattle.lead.specs.Lead.{isEvent, eventData}
 use Rattle.sum.specs.Sum.{sumOf}
 use Rattle.frame.specs.Frame.{byte}
-use Rattle.event.specs.Types.{byName, byNumber, lastNamed, kindOf, kindNumber, lacks}
+use Rattle.event_type.specs.Types.{lacks}
 use Rattle.event.specs.Layout.{event, typeAt, countAt, least, layout}
 use Rattle.event.specs.Reading.{Told, eventIn, readEvent}
 use Rattle.event.specs.Writing.{eventFrame}
 use Rattle.event.specs.declared.Mac.{Mac}
-
--- a type keeps its number
-pub number-kept : (n : ℕ) → kindNumber (kindOf n) ≡ n
-number-kept n = go (leb n lastNamed)
-  where
-    go : (t : Bool) → kindNumber (pick t (byName n) (byNumber n)) ≡ n
-    go true = refl
-    go false = refl
 
 -- a datagram that meets every demand
 pub accepts : (w : ℕ) (d : List ℕ) (r : Told) → least w ≤ length d → isEvent (byte 0 d) (byte 1 d) ≡ true → byte (countAt w) d ≤ eventData

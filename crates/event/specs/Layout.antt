@@ -6,11 +6,11 @@ use mathlib.Core.Path.{_≡_}
 use mathlib.Core.Bool.{false}
 use mathlib.Core.List.{List, [], _∷_, _++_}
 use lib.ListN.{length}
-use Rattle.lead.specs.Lead.{eventData}
+use Rattle.lead.specs.Lead.{eventFirst, eventSecond, eventData}
 use Rattle.sum.specs.Bytes.{Bytes}
 use Rattle.frame.specs.Frame.{sealed}
 use Rattle.order.specs.Big.{bigBytes}
-use Rattle.event.specs.Types.{lacks}
+use Rattle.event_type.specs.Types.{lacks}
 use Rattle.event.specs.declared.Mac.{Mac}
 
 -- where an event's parts stand: the MAC from 2, the target from 8, then the type, n, and the data
@@ -43,7 +43,7 @@ pub data InRange (w : ℕ) : Fields → Type 0 where
 
 -- the bytes in front of the data
 abbrev pub front : ℕ → Mac → ℕ → ℕ → ℕ → List ℕ
-front w m t k n = (0x5A ∷ 0x43 ∷ macBytes m) ++ bigBytes w t ++ (k ∷ n ∷ [])
+front w m t k n = (eventFirst ∷ eventSecond ∷ macBytes m) ++ bigBytes w t ++ (k ∷ n ∷ [])
 
 -- the bytes in front of the sum
 abbrev pub head : ℕ → Fields → List ℕ

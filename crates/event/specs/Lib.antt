@@ -1,5 +1,4 @@
 -- what the contracts cite
-pub mod Types
 pub mod Layout
 pub mod Reading
 pub mod Writing

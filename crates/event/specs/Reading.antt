@@ -10,7 +10,7 @@ use Rattle.lead.specs.Lead.{isEvent, eventData}
 use Rattle.sum.specs.Sum.{sumOf}
 use Rattle.frame.specs.Frame.{byte, listed}
 use Rattle.order.specs.Order.{highFirst, numberIn}
-use Rattle.event.specs.Types.{Kind, saidType, kindOf, kindNumber, lacks, Carried, saidInstance, instanceOf}
+use Rattle.event_type.specs.Types.{Kind, saidType, kindOf, kindNumber, lacks, Carried, saidInstance, instanceOf}
 use Rattle.event.specs.Layout.{Fields, event, targetAt, typeAt, countAt, dataAt, least}
 use Rattle.event.specs.declared.Mac.{Mac}
 use Rattle.event.specs.declared.Event.{Event}

@@ -6,7 +6,7 @@ use lib.ListN.{length}
 use lib.Dec.{leb, ltb}
 use Rattle.refusal.specs.Answer.{Answer, full, demand}
 use Rattle.lead.specs.Lead.{eventData}
-use Rattle.event.specs.Types.{lacks}
+use Rattle.event_type.specs.Types.{lacks}
 use Rattle.event.specs.Layout.{event, layout}
 use Rattle.event.specs.declared.Mac.{Mac}
 

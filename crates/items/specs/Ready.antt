@@ -7,12 +7,12 @@ use mathlib.Core.List.{List, [], _∷_, _++_, append-nil}
 use lib.ListN.{length, take, drop, length-drop}
 use native.Mathlib.Omega.{arith}
 use Rattle.refusal.specs.Test.{clash}
-use Rattle.stream.specs.Stream.{Item, reading, Position, nothing, stands, atClose, Settling, More, Settled, position, itemNumber, itemSize, items}
-use Rattle.stream.specs.Items.{behind, items-front, items-next, items-none}
+use Rattle.stream.specs.Stream.{reading, Position, nothing, stands, atClose, Settling, More, Settled, position, itemNumber, itemSize, items}
+use Rattle.stream.specs.Items.{behind, items-front, items-next}
 use Rattle.line.specs.declared.Line.{Line}
 use Rattle.line.specs.Rule.{itemAt, settle}
 use Rattle.line.specs.Laws.{lawful}
-use Rattle.line.specs.Says.{item-at, none-at, nothing-at, stands-at}
+use Rattle.line.specs.Says.{item-at, none-at, stands-at}
 use Rattle.items.specs.Pour.{readyUpTo, ready}
 
 module _ (on : Line) (closed : Bool) where

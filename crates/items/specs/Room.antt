@@ -1,5 +1,5 @@
 -- How long a line of text can be, and what is left where one has room and nothing is poured.
-use Prim.Native.Nat.{ℕ, suc, _+_, _*_, _-_, _≤_, _<_}
+use Prim.Native.Nat.{ℕ, suc, _-_, _≤_, _<_}
 use mathlib.Core.Path.{_≡_, refl, sym, ap, _∙_}
 use mathlib.Core.Bool.{Bool, true, false}
 use mathlib.Core.List.{List, [], _∷_}
@@ -9,7 +9,7 @@ use borrow.Author.Tests.{ltb-true, ltb-false, ne-eqb}
 use native.Mathlib.Omega.{arith}
 use Rattle.refusal.specs.Test.{clash}
 use Rattle.text.specs.Digits.{two-most}
-use Rattle.stream.specs.Stream.{Item, reading, nothing, stands, Settling, More, Settled, itemNumber, itemSize}
+use Rattle.stream.specs.Stream.{reading, nothing, stands, Settling, More, Settled, itemNumber}
 use Rattle.stream.specs.Lawful.{size-most}
 use Rattle.line.specs.declared.Line.{Line}
 use Rattle.line.specs.declared.Line.the-variants.{Request, Reply}

@@ -12,8 +12,15 @@ isRequest b = eqb b requestLead
 abbrev pub isReply : ℕ → Bool
 isReply b = leb 0xA0 b && leb b 0xA3
 
+-- the two bytes of an event's lead
+abbrev pub eventFirst : ℕ
+eventFirst = 0x5A
+
+abbrev pub eventSecond : ℕ
+eventSecond = 0x43
+
 abbrev pub isEvent : ℕ → ℕ → Bool
-isEvent a b = eqb a 0x5A && eqb b 0x43
+isEvent a b = eqb a eventFirst && eqb b eventSecond
 
 -- "Reply, 4 + n bytes": those beside its data
 abbrev pub replyLeast : ℕ

@@ -3,7 +3,7 @@
 use Prim.Native.Nat.{ℕ, suc, _-_, _≤_, _<_}
 use mathlib.Core.Path.{_≡_, refl, sym, ap, _∙_}
 use mathlib.Core.List.{List, _∷_}
-use lib.ListN.{length, take, replicate, length-take}
+use lib.ListN.{length, take, replicate}
 use native.Mathlib.Omega.{arith}
 use Rattle.lead.specs.Lead.{replyData}
 use Rattle.command.specs.Command.{shapeOf}

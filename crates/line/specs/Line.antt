@@ -12,7 +12,7 @@ use Rattle.command.specs.declared.Shape.{Shape}
 use Rattle.command.specs.declared.Shape.the-variants.{Unknown, Basic, Unicast}
 use Rattle.command.specs.Command.{shapeOf}
 use Rattle.command.specs.Length.{Told, unknown, fixed, tested, lengthOf, basicBytes, unicastBytes}
-use Rattle.command.specs.Arguments.{fits}
+use Rattle.ranges.specs.Arguments.{fits}
 use Rattle.line.specs.declared.Line.{Line}
 use Rattle.line.specs.declared.Line.the-variants.{Request, Reply}
 use Rattle.line.specs.declared.Extent.{Extent}

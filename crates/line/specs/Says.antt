@@ -12,7 +12,7 @@ use Rattle.sum.specs.Sum.{sumOf}
 use Rattle.frame.specs.Frame.{byte}
 use Rattle.command.specs.Command.{shapeOf}
 use Rattle.command.specs.Length.{Told, unknown, fixed, tested, lengthOf}
-use Rattle.stream.specs.Stream.{Position, nothing, stands, atClose, Settling, More, Settled, position, itemNumber, itemSize}
+use Rattle.stream.specs.Stream.{nothing, stands, atClose, Settling, More, Settled, position, itemNumber, itemSize}
 use Rattle.stream.specs.Stream.{reading, items}
 use Rattle.stream.specs.Items.{items-none, items-next}
 use Rattle.stream.specs.declared.Step.{Step}

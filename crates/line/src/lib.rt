@@ -1,6 +1,6 @@
 // The request line and the reply line: what the bytes at a position of a line say. One rule serves both lines; a line is its
 // lead, what its first bytes tell of a frame's length, and the table of its arguments. It leans on the leads, the sum, the
-// commands and the words of a stream (crate stream). Document 01, "Reading a line".
+// commands, their ranges and the words of a stream (crate stream). Document 01, "Reading a line".
 ghost use Prim.Native.Nat.{_≤_};
 ghost use mathlib.Core.Path.{_≡_};
 ghost use lib.ListN.{length};
@@ -120,7 +120,7 @@ fn arguments_fit(f: &[u8]) -> bool
     let shape = command::shape_of(f[2]);
     match shape {
         Shape::Unknown => true,
-        Shape::Basic(rule) => command::fits(rule, f[3], f[4], f[5], f[6]),
+        Shape::Basic(rule) => ranges::fits(rule, f[3], f[4], f[5], f[6]),
         Shape::Unicast => true,
     }
 }

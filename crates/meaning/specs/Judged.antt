@@ -8,7 +8,7 @@ use Rattle.target.specs.declared.Device.{Device}
 use Rattle.target.specs.Target.{isGroup, isDevice, isLighting, isGearOrGroup, isStatusBroadcast}
 use Rattle.command.specs.declared.Rule.{Rule}
 use Rattle.command.specs.declared.Rule.the-variants.{Group, Timers, GroupScene, Inhibit, Scene, Level, Lights, Address, Status}
-use Rattle.command.specs.Arguments.{isScene, isInstance, fits}
+use Rattle.ranges.specs.Arguments.{isScene, isInstance, fits}
 use Rattle.meaning.specs.declared.Arguments.{Arguments}
 use Rattle.meaning.specs.Ways.{groupBytes, timersBytes, groupSceneBytes, inhibitBytes, lastBytes, targetBytes}
 

@@ -8,7 +8,6 @@ use native.Mathlib.Nat.{zero-add}
 use native.Mathlib.Omega.{arith}
 use Rattle.lent.specs.Puts.{Puts}
 use Rattle.lent.specs.Over.{puts-room, puts-then}
-use Rattle.reader.specs.declared.Held.{Held}
 use Rattle.reader.specs.Reader.{pad, hold, heldRoom}
 
 -- zeros, by their number

@@ -3,7 +3,7 @@
 use Prim.Native.Nat.{ℕ, _-_}
 use mathlib.Core.Path.{_≡_}
 use mathlib.Core.List.{List, [], _++_}
-use lib.ListN.{length, take, drop, replicate}
+use lib.ListN.{length, take, replicate}
 use lib.Dec.{leb}
 use Rattle.refusal.specs.Test.{pick}
 use Rattle.stream.specs.Stream.{reading, Fed, nothingYet, found, Closed, empty, last, feed, close}

@@ -1,20 +1,16 @@
-// Replies as single datagrams: read, their data part and error code, written into a lent buffer, and relayed. It leans on lead for the
-// types and the most data, on error for the names of codes, on sum and frame for the sum and the last step of writing.
+// Replies as single datagrams, read, with their data part and error code (crate writers writes them). It leans on lead for the types and
+// the most data, on error for the names of codes, on sum for the sum.
 // Document 01, "Frames"; source 002, "TPI Advanced Response Frame" and "Error Codes".
 ghost use Prim.Native.Nat.{_+_};
 ghost use mathlib.Core.Path.{_≡_};
 ghost use denote.Ref.{ptr};
 ghost use Rattle.refusal.specs.Answer.{full};
 ghost use Rattle.error.specs.Error.{nameOf};
-ghost use Rattle.frame.specs.Written.{Written};
-ghost use Rattle.frame.specs.Relay.{relayed};
 ghost use Rattle.reply.specs.Reading.{said, saidCode, readReply, dataOf, dataStart, codeNamed, codeOf};
-ghost use Rattle.reply.specs.Writing.{replyFrame};
 use error::Name;
-use frame::Wrote;
 
 // "Reply, 4 + n bytes: type, sequence, n, n data bytes, sum": where the data begin.
-const DATA_AT: usize = 3;
+pub const DATA_AT: usize = 3;
 
 // "A3 ERROR"
 const ERROR: u8 = 0xA3;
@@ -114,35 +110,5 @@ pub fn error_code(s: &[u8]) -> Code
             named(s[DATA_AT])
         }
         Reading::Refused(k) => Code::Refused(k),
-    }
-}
-
-// Writes a reply: 2 where the type is none, 4 where there are more than 64 data bytes, 8 where the buffer is too short.
-pub fn write(kind: u8, sequence: u8, data: &[u8], out: &mut [u8]) -> Wrote
-    ensures { λ r. ⌜ Written (replyFrame kind sequence (now («data» .entry))) (now (out .entry)) r (now (out .exit)) ⌝ }
-{
-    if !lead::is_reply(kind) {
-        return Wrote::Refused(2);
-    }
-    let n = data.len();
-    if lead::REPLY_DATA < n {
-        return Wrote::Refused(4);
-    }
-    let head = [kind, sequence, n as u8];
-    frame::write(&head, data, out)
-}
-
-// Reads a reply and writes it again: an accepted datagram comes back byte for byte, 8 where the buffer is too short for it. Another gives
-// the refusal of its reading.
-pub fn relay(s: &[u8], out: &mut [u8]) -> Wrote
-    ensures { λ r. ⌜ Written (relayed (readReply (now (s .entry))) (now (s .entry))) (now (out .entry)) r (now (out .exit)) ⌝ }
-{
-    let r = read(s);
-    match r {
-        Reading::Accepted(reply) => {
-            let end = reply.n + DATA_AT;
-            write(reply.kind, reply.sequence, &s[DATA_AT..end], out)
-        }
-        Reading::Refused(k) => Wrote::Refused(k),
     }
 }

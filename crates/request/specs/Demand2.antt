@@ -24,7 +24,7 @@ use Rattle.command.specs.declared.Shape.{Shape}
 use Rattle.command.specs.declared.Shape.the-variants.{Unknown, Basic, Unicast}
 use Rattle.command.specs.Command.{shapeOf, numbersIn, mayWrite}
 use Rattle.command.specs.Known.{unicast-only, basic-known, unicast-known, known-may-write}
-use Rattle.command.specs.Arguments.{fits}
+use Rattle.ranges.specs.Arguments.{fits}
 use Rattle.meaning.specs.Meaning.{pair, meaningOf}
 use Rattle.request.specs.Layout.{Fields, basic, unicast, InRange, basic-fits, unicast-fits, commandIn, Writable, head, layout}
 use Rattle.request.specs.Said.{Heard, fieldsOf}

@@ -12,7 +12,7 @@ use Rattle.order.specs.Big.{bigBytes}
 use Rattle.command.specs.declared.Rule.{Rule}
 use Rattle.command.specs.declared.Shape.the-variants.{Basic}
 use Rattle.command.specs.Command.{shapeOf, mayWrite}
-use Rattle.command.specs.Arguments.{fits}
+use Rattle.ranges.specs.Arguments.{fits}
 use Rattle.command.specs.Length.{unicastCommand, unicastLength}
 
 -- a request's fields: sequence, command, A, B, C, D; or sequence, port and the four bytes of an address

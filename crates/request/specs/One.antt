@@ -1,5 +1,4 @@
 -- What is said of a reading leaves no choice: from it the case is told.
-use Prim.Native.Nat.{ℕ}
 use mathlib.Core.Path.{_≡_, refl, sym, ap, _∙_}
 use Rattle.refusal.specs.Answer.{Answer, refused, full}
 use Rattle.meaning.specs.Laws.{meaningBy, meaning-back}

@@ -11,7 +11,7 @@ use Rattle.command.specs.declared.Rule.{Rule}
 use Rattle.command.specs.declared.Shape.{Shape}
 use Rattle.command.specs.declared.Shape.the-variants.{Unknown, Basic, Unicast}
 use Rattle.command.specs.Command.{shapeOf}
-use Rattle.command.specs.Arguments.{fits}
+use Rattle.ranges.specs.Arguments.{fits}
 use Rattle.command.specs.Length.{Told, unknown, fixed, tested, lengthOf, basicBytes}
 use Rattle.meaning.specs.Meaning.{pair, meaningOf}
 use Rattle.request.specs.Said.{Heard, heard, arguments, address}

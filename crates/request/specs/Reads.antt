@@ -12,7 +12,7 @@ use Rattle.command.specs.declared.Rule.{Rule}
 use Rattle.command.specs.declared.Shape.{Shape}
 use Rattle.command.specs.Command.{shapeOf, numbersOf, numbersIn}
 use Rattle.command.specs.Known.{shape-told}
-use Rattle.command.specs.Arguments.{fits}
+use Rattle.ranges.specs.Arguments.{fits}
 use Rattle.meaning.specs.Meaning.{Sense, meaningOf}
 use Rattle.request.specs.Said.{Heard, heard, arguments}
 use Rattle.request.specs.Reading.{readBasic, readShape, readRequest}

@@ -6,7 +6,7 @@ use Rattle.refusal.specs.Answer.{Answer, refused, full, demand}
 use Rattle.command.specs.declared.Shape.{Shape}
 use Rattle.command.specs.declared.Shape.the-variants.{Unknown, Basic, Unicast}
 use Rattle.command.specs.Command.{shapeOf}
-use Rattle.command.specs.Arguments.{fits}
+use Rattle.ranges.specs.Arguments.{fits}
 use Rattle.meaning.specs.declared.Arguments.{Arguments}
 use Rattle.request.specs.Layout.{Fields, basic, unicast, layout}
 use Rattle.request.specs.declared.Ipv4.{Ipv4}

@@ -1,17 +1,13 @@
-// Requests as single datagrams: read, written into a lent buffer, and relayed. Basic requests and the one dynamic request, 40. It
-// leans on crate command for shapes, lengths and ranges, and on crate meaning for what arguments say.
+// Requests as single datagrams, read (crate writers writes them). Basic requests and the one dynamic request, 40. It
+// leans on crate command for shapes and lengths, on crate ranges for the ranges, and on crate meaning for what arguments say.
 // Document 01, "Frames" and "Requests and their argument ranges"; source 002, "Basic Request Frame" and "TPI Dynamic Subframe".
 ghost use mathlib.Core.Path.{_≡_};
 ghost use Prim.Native.Nat.{_≤_};
 ghost use lib.ListN.{length};
-ghost use Rattle.frame.specs.Written.{Written};
-ghost use Rattle.frame.specs.Relay.{relayed};
-ghost use Rattle.request.specs.Said.{fieldsOf, saidRequest, said};
+ghost use Rattle.request.specs.Said.{said};
 ghost use Rattle.request.specs.Reading.{readRequest, readBasic, readUnicast};
-ghost use Rattle.request.specs.Writing.{basicFrame, unicastFrame, writerOf};
 use command::Rule;
 use command::Shape;
-use frame::Wrote;
 use meaning::Arguments;
 use meaning::Meaning;
 
@@ -57,7 +53,7 @@ fn read_basic(rule: Rule, s: &[u8]) -> Reading
     let b = s[4];
     let c = s[5];
     let d = s[6];
-    if !command::fits(rule, a, b, c, d) {
+    if !ranges::fits(rule, a, b, c, d) {
         return Reading::Refused(7);
     }
     let meaning = meaning::meaning_of(rule, a, b, c, d);
@@ -111,75 +107,5 @@ pub fn read(s: &[u8]) -> Reading
         Shape::Unknown => Reading::Refused(3),
         Shape::Basic(rule) => read_basic(rule, s),
         Shape::Unicast => read_unicast(s),
-    }
-}
-
-// Writes a basic request: 3 where the command is unknown or 40, 7 where an argument is outside the table, 8 where the
-// buffer is too short.
-pub fn write_basic(sequence: u8, command: u8, arguments: Arguments, out: &mut [u8]) -> Wrote
-    ensures { λ r. ⌜ Written (basicFrame sequence command arguments) (now (out .entry)) r (now (out .exit)) ⌝ }
-{
-    let shape = command::shape_of(command);
-    match shape {
-        Shape::Basic(rule) => {
-            let a = arguments.a;
-            let b = arguments.b;
-            let c = arguments.c;
-            let d = arguments.d;
-            if !command::fits(rule, a, b, c, d) {
-                return Wrote::Refused(7);
-            }
-            let head = [lead::REQUEST, sequence, command, a, b, c, d];
-            frame::write(&head, b"", out)
-        }
-        Shape::Unknown => Wrote::Refused(3),
-        Shape::Unicast => Wrote::Refused(3),
-    }
-}
-
-// Writes request 40, for any port and address: 8 where the buffer is too short.
-pub fn write_unicast(sequence: u8, port: u16, address: Ipv4, out: &mut [u8]) -> Wrote
-    ensures { λ r. ⌜ Written (unicastFrame sequence port address) (now (out .entry)) r (now (out .exit)) ⌝ }
-{
-    let high = (port / 256 % 256) as u8;
-    let low = (port % 256) as u8;
-    let head = [
-        lead::REQUEST,
-        sequence,
-        command::UNICAST_COMMAND,
-        command::UNICAST_LENGTH,
-        high,
-        low,
-        address.0,
-        address.1,
-        address.2,
-        address.3,
-    ];
-    frame::write(&head, b"", out)
-}
-
-// Writes a request that was read.
-fn write_again(r: Request, out: &mut [u8]) -> Wrote
-    ensures { λ w. ⌜ Written (writerOf (fieldsOf (saidRequest r))) (now (out .entry)) w (now (out .exit)) ⌝ }
-{
-    let contents = r.contents;
-    match contents {
-        Contents::Basic {
-            arguments,
-            meaning: _,
-        } => write_basic(r.sequence, r.command, arguments, out),
-        Contents::Unicast { port, address } => write_unicast(r.sequence, port, address, out),
-    }
-}
-
-// Hands a datagram on: reads it, and writes what was read into a lent buffer. An accepted one comes back byte for byte, or 8 where the
-// buffer is too short; else the answer is the reader's refusal.
-pub fn relay(s: &[u8], out: &mut [u8]) -> Wrote
-    ensures { λ r. ⌜ Written (relayed (readRequest (now (s .entry))) (now (s .entry))) (now (out .entry)) r (now (out .exit)) ⌝ }
-{
-    let reading = read(s);
-    match reading {
-        Reading::Refused(k) => Wrote::Refused(k),
-        Reading::Accepted(r) => write_again(r, out),
     }
 }

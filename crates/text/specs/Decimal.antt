@@ -6,7 +6,7 @@ use mathlib.Core.List.{List, [], _∷_, _++_}
 use lib.ListN.{length, getD, length-append, List·getD-append}
 use lib.Dec.{ltb}
 use borrow.Author.Tests.{lt-ltb, ltb-true, ltb-false}
-use native.Mathlib.Nat.{pow-suc, pow-le-pow-right, pow-zero, one-le-pow, div-lt-iff-lt-mul, le-div-iff-mul-le, mod-eq-of-lt, mod-lt}
+use native.Mathlib.Nat.{pow-suc, pow-zero, one-le-pow, div-lt-iff-lt-mul, le-div-iff-mul-le, mod-lt}
 use native.Mathlib.Omega.{arith}
 use Rattle.text.specs.Text.{digit, decimalIn}
 

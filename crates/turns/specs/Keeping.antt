@@ -1,7 +1,7 @@
 -- The bytes that are kept, moved to the front one by one.
 use Prim.Native.Nat.{ℕ, suc, _+_, _-_, _≤_, _<_, min}
-use mathlib.Core.Path.{_≡_, refl, sym, ap, _∙_}
-use mathlib.Core.List.{List, [], _∷_, _++_}
+use mathlib.Core.Path.{_≡_, sym, ap, _∙_}
+use mathlib.Core.List.{List, [], _++_}
 use lib.ListN.{length, getD, take, drop, set, length-take, length-drop, drop-of-length-le}
 use lib.Seq.{take-suc, take-length, drop-cons, getD-take, getD-drop, getD-append-add, set-at, append-snoc, length-take-le}
 use native.Mathlib.Nat.{add-comm}

@@ -12,7 +12,7 @@ use mathlib.Core.Bool.{true, false}
 use mir.Syntax.{w64}
 use mir.Val.{Fits, SFits}
 use Rattle.turns.specs.declared.Turn.{Turn}
-use Rattle.turns.specs.Turn.{Onward, failed, goes, readAfter}
+use Rattle.turns.specs.Turn.{failed, goes, readAfter}
 
 pub answer-fits : (z : ℤ) → SFits w64 z → Fits w64 (natAbs z)
 answer-fits z f = record { fits = lt-of-le-of-lt (natAbs-le z (f .sfits)) (lit< tt) }

@@ -1,5 +1,5 @@
 -- What an answer of `next` tells of the turn.
-use Prim.Native.Nat.{ℕ, zero, suc, _+_, _≤_, _<_}
+use Prim.Native.Nat.{ℕ, zero, _+_, _≤_}
 use mathlib.Core.Path.{_≡_, refl, sym, ap, _∙_}
 use mathlib.Core.Bool.{Bool, true, false}
 use mathlib.Core.List.{List, [], _∷_, _++_}
@@ -18,7 +18,7 @@ use Rattle.turns.specs.declared.Turn.{Turn}
 use Rattle.turns.specs.declared.Act.{Act}
 use Rattle.turns.specs.declared.Act.the-variants.{Write, Read, Done}
 use Rattle.turns.specs.Next.{take-least}
-use Rattle.turns.specs.Turn.{heldBy, endOf, pouredBy, Doing, writes, reads, done, doing, doingNext, bufferAfter, Turns}
+use Rattle.turns.specs.Turn.{heldBy, endOf, pouredBy, writes, reads, done, Turns}
 
 -- it writes: the text of what is poured, and that is held no more
 pub record Wrote (on : Line) (t : Turn) (buf out : List ℕ) (n : ℕ) (u : Turn) (buf′ out′ : List ℕ) : Type 0 where

@@ -1,242 +1,56 @@
 // The codec for programs in C and Rust: `rt staticlib wickanchor` makes a static library of the functions below, for x86-64. A run of
 // bytes is a pointer and then a length; a result is a struct by value, laid out as C does. A refusal is its number by document 01, and
 // 0 stands for none; every other field of a refused call is 0. include/wickanchor.h declares them for C. Each function hands on what the
-// crate of its subject answers, and its contract cites that crate's definition.
+// crate of its subject answers, as crates c_datagrams and c_values put it, and its contract cites that crate's definition.
 ghost use mathlib.Core.Path.{_≡_};
 ghost use mathlib.Core.Bool.{not};
 ghost use mathlib.Core.List.{[]};
 ghost use lib.Dec.{eqb};
-ghost use Rattle.refusal.specs.Answer.{full};
 ghost use Rattle.sum.specs.Sum.{sumOf};
-ghost use Rattle.frame.specs.Written.{said};
 ghost use Rattle.frame.specs.Relay.{relayed};
-ghost use Rattle.target.specs.Target.{saidTarget, lightsOf, statusOf, lineOf, deviceOf, deviceNumber};
+ghost use Rattle.target.specs.Target.{lightsOf, statusOf, lineOf, deviceOf, deviceNumber};
 ghost use Rattle.command.specs.Command.{isKnown};
-ghost use Rattle.meaning.specs.Meaning.{saidMeaning};
-ghost use Rattle.request.specs.Said.{saidRequest};
 ghost use Rattle.request.specs.Reading.{readRequest};
 ghost use Rattle.request.specs.Writing.{basicFrame, unicastFrame};
 ghost use Rattle.error.specs.Error.{nameOf};
 ghost use Rattle.reply.specs.Reading.{readReply, codeOf};
 ghost use Rattle.reply.specs.Writing.{replyFrame};
-ghost use Rattle.event.specs.Types.{saidInstance};
-ghost use Rattle.event.specs.Reading.{readEvent, saidEvent};
+ghost use Rattle.event.specs.Reading.{readEvent};
 ghost use Rattle.event.specs.Writing.{eventFrame};
+ghost use Rattle.names.specs.Names.{nameOf as textOf};
 ghost use Rattle.maps.specs.Maps.{maskOf, scenesOf, gearOf, typesOf, countOf, lowestOf};
-ghost use Rattle.maps.specs.Said.{said16, saidLowest};
 ghost use Rattle.filters.specs.Filters.{filtersOf, entryOf};
 ghost use Rattle.book.specs.Book.{freshBook};
 ghost use Rattle.line.specs.Rule.{itemAt};
 ghost use Rattle.reader.specs.Reader.{hold};
-ghost use Rattle.wickanchor.specs.Outside.{flag, numberOut, wroteOut, WrittenOut};
-ghost use Rattle.wickanchor.specs.Requests.{aimOut, meansOut, meaningOut, requestOut, addressIn};
-ghost use Rattle.wickanchor.specs.Replies.{replyOut, nameNo, codeOut};
-ghost use Rattle.wickanchor.specs.Events.{instanceNo, instanceIs, eventOut, macIn};
-ghost use Rattle.wickanchor.specs.Data.{filtersOut, filterOut, lineOut, deviceOut};
-ghost use Rattle.wickanchor.specs.Books.{bookIn, bookOut, askedOut, repliedOut};
-ghost use Rattle.wickanchor.specs.Lines.{lineBy, readerIn, readerOut, givenOut, fedOut, closedOut, positionOut};
-use book::Book;
-use event::Event;
-use event::Instance;
-use event::Mac;
-use filters::Found;
-use filters::Listed;
-use frame::Wrote;
-use line::At;
-use line::Line;
-use maps::Lowest;
-use maps::Map16;
-use maps::Map32;
-use maps::Map64;
+ghost use Rattle.c_datagrams.specs.Written.{WrittenOut};
+ghost use Rattle.c_datagrams.specs.Requests.{aimOut, requestOut, addressIn};
+ghost use Rattle.c_datagrams.specs.Replies.{replyOut, nameNo, codeOut};
+ghost use Rattle.c_datagrams.specs.Events.{eventOut, macIn};
+ghost use Rattle.c_values.specs.Numbers.{flag, numberOut, lineOut, deviceOut};
+ghost use Rattle.c_values.specs.Filters.{filtersOut, filterOut};
+ghost use Rattle.c_values.specs.Books.{bookIn, bookOut, askedOut, repliedOut};
+ghost use Rattle.c_values.specs.Lines.{lineBy, readerIn, readerOut, fedOut, closedOut, positionOut};
+use c_datagrams::WickAddress;
+use c_datagrams::WickAim;
+use c_datagrams::WickCode;
+use c_datagrams::WickEvent;
+use c_datagrams::WickMac;
+use c_datagrams::WickReply;
+use c_datagrams::WickRequest;
+use c_datagrams::WickWrote;
+use c_values::WickBook;
+use c_values::WickBooked;
+use c_values::WickFilter;
+use c_values::WickFilters;
+use c_values::WickGiven;
+use c_values::WickItem;
+use c_values::WickNumber;
+use c_values::WickReader;
 use meaning::Arguments;
-use meaning::Meaning;
-use reader::Given;
-use reader::Got;
-use reader::Held;
-use request::Contents;
-use request::Ipv4;
-use request::Request;
-use target::Addressed;
 use target::Device;
 use target::Group;
 use target::LineTarget;
-use target::Numbered;
-use target::OnLine;
-use target::Target;
-
-// A number, as a map, a count or an address.
-#[repr(C)]
-pub struct WickNumber {
-    pub refusal: u8,
-    pub number: u64,
-}
-
-// How many bytes a writer wrote.
-#[repr(C)]
-pub struct WickWrote {
-    pub refusal: u8,
-    pub count: u64,
-}
-
-// What a target names: 1 gear and 2 a group, each by its number, 3 broadcast, 4 it is no target; 0 where no target is meant.
-#[repr(C)]
-pub struct WickAim {
-    pub kind: u8,
-    pub number: u8,
-}
-
-// What the arguments of a basic request mean: one of 14 kinds, and its numbers in the order in which crate meaning has them; 0 where it
-// has fewer. Kind 0 is no meaning, as for command 40.
-#[repr(C)]
-pub struct WickMeaning {
-    pub kind: u8,
-    pub aim: WickAim,
-    pub first: u8,
-    pub second: u8,
-    pub third: u8,
-    pub wide: u16,
-}
-
-// An IPv4 address, in the order in which it is written.
-#[repr(C)]
-pub struct WickAddress {
-    pub b0: u8,
-    pub b1: u8,
-    pub b2: u8,
-    pub b3: u8,
-}
-
-// A request: its four arguments and what they mean, or for command 40 its port and address.
-#[repr(C)]
-pub struct WickRequest {
-    pub refusal: u8,
-    pub sequence: u8,
-    pub command: u8,
-    pub a: u8,
-    pub b: u8,
-    pub c: u8,
-    pub d: u8,
-    pub address: WickAddress,
-    pub port: u16,
-    pub meaning: WickMeaning,
-}
-
-// A reply: its data are n bytes of the datagram, from data_at on.
-#[repr(C)]
-pub struct WickReply {
-    pub refusal: u8,
-    pub kind: u8,
-    pub sequence: u8,
-    pub data_at: u64,
-    pub n: u64,
-}
-
-// The error code of a reply, and the number of its name, 0 where it has none.
-#[repr(C)]
-pub struct WickCode {
-    pub refusal: u8,
-    pub has_code: u8,
-    pub code: u8,
-    pub name: u8,
-}
-
-// The MAC address of a controller, in the order in which it is written.
-#[repr(C)]
-pub struct WickMac {
-    pub b0: u8,
-    pub b1: u8,
-    pub b2: u8,
-    pub b3: u8,
-    pub b4: u8,
-    pub b5: u8,
-}
-
-// An event: its data are n bytes of the datagram, from data_at on.
-#[repr(C)]
-pub struct WickEvent {
-    pub refusal: u8,
-    pub kind: u8,
-    pub instance: u8,
-    pub has_instance: u8,
-    pub mac: WickMac,
-    pub target: u32,
-    pub data_at: u64,
-    pub n: u64,
-}
-
-// The mode byte of filters, and how many entries they have.
-#[repr(C)]
-pub struct WickFilters {
-    pub refusal: u8,
-    pub mode: u8,
-    pub entries: u64,
-}
-
-// An entry of filters.
-#[repr(C)]
-pub struct WickFilter {
-    pub refusal: u8,
-    pub address: u8,
-    pub instance: u8,
-    pub mask: u16,
-}
-
-// A book of unanswered requests: the command asked under each sequence number, and the last number given.
-#[repr(C)]
-pub struct WickBook {
-    pub asked: [u8; 256],
-    pub last: u8,
-}
-
-// What asking or answering gives: a sequence number or a command, and the book afterwards.
-#[repr(C)]
-pub struct WickBooked {
-    pub refusal: u8,
-    pub answer: u8,
-    pub book: WickBook,
-}
-
-// A reader of a line between two calls: how many bytes it holds, and these in front.
-#[repr(C)]
-pub struct WickReader {
-    pub bytes: [u8; 67],
-    pub len: usize,
-}
-
-// What a feeding or a closing call gives: the reader afterwards, how many bytes of the part were taken, whether there is an item, its
-// number, how many bytes it has, and these in front of zeros.
-#[repr(C)]
-pub struct WickGiven {
-    pub reader: WickReader,
-    pub taken: usize,
-    pub has_item: u8,
-    pub item: u8,
-    pub count: usize,
-    pub bytes: [u8; 68],
-}
-
-// What stands at a position: whether there is an item, its number and how many bytes it has.
-#[repr(C)]
-pub struct WickItem {
-    pub has_item: u8,
-    pub item: u8,
-    pub count: usize,
-}
-
-fn wrote_out(w: Wrote) -> WickWrote
-    ensures { λ r. ⌜ r ≡ wroteOut (said w) ⌝ }
-{
-    match w {
-        Wrote::Count(n) => WickWrote {
-            refusal: 0,
-            count: n as u64,
-        },
-        Wrote::Refused(k) => WickWrote {
-            refusal: k,
-            count: 0,
-        },
-    }
-}
 
 // The exclusive-or of the bytes of a run, 0 for none.
 #[no_mangle]
@@ -254,133 +68,12 @@ pub extern "C" fn wick_known(command: u8) -> u8
     command::known(command) as u8
 }
 
-fn aim_out(t: Target) -> WickAim
-    ensures { λ r. ⌜ r ≡ aimOut (saidTarget t) ⌝ }
-{
-    match t {
-        Target::Gear(n) => WickAim { kind: 1, number: n },
-        Target::Group(g) => WickAim {
-            kind: 2,
-            number: g.0,
-        },
-        Target::Broadcast => WickAim { kind: 3, number: 0 },
-        Target::Nothing => WickAim { kind: 4, number: 0 },
-    }
-}
-
-fn means(kind: u8, aim: WickAim, first: u8, second: u8, third: u8, wide: u16) -> WickMeaning
-    ensures { λ r. ⌜ r ≡ meansOut kind aim first second third wide ⌝ }
-{
-    WickMeaning {
-        kind,
-        aim,
-        first,
-        second,
-        third,
-        wide,
-    }
-}
-
-// No target.
-const NO_AIM: WickAim = WickAim { kind: 0, number: 0 };
-
-fn meaning_out(m: Meaning) -> WickMeaning
-    ensures { λ r. ⌜ r ≡ meaningOut (saidMeaning m) ⌝ }
-{
-    match m {
-        Meaning::Nothing => means(1, NO_AIM, 0, 0, 0, 0),
-        Meaning::Group(g) => means(2, NO_AIM, g.0, 0, 0, 0),
-        Meaning::Emit(a) => means(3, NO_AIM, a, 0, 0, 0),
-        Meaning::Timers { device, instance } => means(4, NO_AIM, device.0, instance, 0, 0),
-        Meaning::GroupScene { group, scene } => means(5, NO_AIM, group.0, scene, 0, 0),
-        Meaning::Channel { universe, channel } => means(6, NO_AIM, universe, 0, 0, channel),
-        Meaning::Filter {
-            address,
-            instance,
-            mask,
-        } => means(7, NO_AIM, address, instance, 0, mask),
-        Meaning::Query {
-            address,
-            start,
-            instance,
-        } => means(8, NO_AIM, address, start, instance, 0),
-        Meaning::Gear(a) => means(9, NO_AIM, a, 0, 0, 0),
-        Meaning::Inhibit { target, seconds } => means(10, aim_out(target), 0, 0, 0, seconds),
-        Meaning::Scene { target, scene } => means(11, aim_out(target), scene, 0, 0, 0),
-        Meaning::Level { target, level } => means(12, aim_out(target), level, 0, 0, 0),
-        Meaning::Lit(target) => means(13, aim_out(target), 0, 0, 0, 0),
-        Meaning::Target(target) => means(14, aim_out(target), 0, 0, 0, 0),
-    }
-}
-
-fn request_out(r: Request) -> WickRequest
-    ensures { λ w. ⌜ w ≡ requestOut (full (saidRequest r)) ⌝ }
-{
-    let contents = r.contents;
-    match contents {
-        Contents::Basic { arguments, meaning } => WickRequest {
-            refusal: 0,
-            sequence: r.sequence,
-            command: r.command,
-            a: arguments.a,
-            b: arguments.b,
-            c: arguments.c,
-            d: arguments.d,
-            address: WickAddress {
-                b0: 0,
-                b1: 0,
-                b2: 0,
-                b3: 0,
-            },
-            port: 0,
-            meaning: meaning_out(meaning),
-        },
-        Contents::Unicast { port, address } => WickRequest {
-            refusal: 0,
-            sequence: r.sequence,
-            command: r.command,
-            a: 0,
-            b: 0,
-            c: 0,
-            d: 0,
-            address: WickAddress {
-                b0: address.0,
-                b1: address.1,
-                b2: address.2,
-                b3: address.3,
-            },
-            port,
-            meaning: means(0, NO_AIM, 0, 0, 0, 0),
-        },
-    }
-}
-
 // Reads a request datagram.
 #[no_mangle]
 pub extern "C" fn wick_request(s: &[u8]) -> WickRequest
     ensures { λ w. ⌜ w ≡ requestOut (readRequest (now (s .entry))) ⌝ }
 {
-    let r = request::read(s);
-    match r {
-        request::Reading::Accepted(x) => request_out(x),
-        request::Reading::Refused(k) => WickRequest {
-            refusal: k,
-            sequence: 0,
-            command: 0,
-            a: 0,
-            b: 0,
-            c: 0,
-            d: 0,
-            address: WickAddress {
-                b0: 0,
-                b1: 0,
-                b2: 0,
-                b3: 0,
-            },
-            port: 0,
-            meaning: means(0, NO_AIM, 0, 0, 0, 0),
-        },
-    }
+    c_datagrams::request_out(request::read(s))
 }
 
 // Writes a basic request.
@@ -396,7 +89,7 @@ pub extern "C" fn wick_write_basic(
 ) -> WickWrote
     ensures { λ w. ⌜ WrittenOut (basicFrame sequence command (record { a = a; b = b; c = c; d = d })) (now (out .entry)) w (now (out .exit)) ⌝ }
 {
-    wrote_out(request::write_basic(sequence, command, Arguments { a, b, c, d }, out))
+    c_datagrams::wrote_out(writers::basic(sequence, command, Arguments { a, b, c, d }, out))
 }
 
 // Writes request 40.
@@ -409,8 +102,7 @@ pub extern "C" fn wick_write_unicast(
 ) -> WickWrote
     ensures { λ w. ⌜ WrittenOut (unicastFrame sequence port (addressIn address)) (now (out .entry)) w (now (out .exit)) ⌝ }
 {
-    let ip = Ipv4(address.b0, address.b1, address.b2, address.b3);
-    wrote_out(request::write_unicast(sequence, port, ip, out))
+    c_datagrams::wrote_out(writers::unicast(sequence, port, c_datagrams::address_in(address), out))
 }
 
 // Reads a request and writes it again.
@@ -418,34 +110,15 @@ pub extern "C" fn wick_write_unicast(
 pub extern "C" fn wick_relay_request(s: &[u8], out: &mut [u8]) -> WickWrote
     ensures { λ w. ⌜ WrittenOut (relayed (readRequest (now (s .entry))) (now (s .entry))) (now (out .entry)) w (now (out .exit)) ⌝ }
 {
-    wrote_out(request::relay(s, out))
+    c_datagrams::wrote_out(relay::request(s, out))
 }
-
-// "type, sequence, n, n data bytes, sum": where the data begin.
-const REPLY_DATA_AT: u64 = 3;
 
 // Reads a reply datagram.
 #[no_mangle]
 pub extern "C" fn wick_reply(s: &[u8]) -> WickReply
     ensures { λ w. ⌜ w ≡ replyOut (readReply (now (s .entry))) ⌝ }
 {
-    let r = reply::read(s);
-    match r {
-        reply::Reading::Accepted(x) => WickReply {
-            refusal: 0,
-            kind: x.kind,
-            sequence: x.sequence,
-            data_at: REPLY_DATA_AT,
-            n: x.n as u64,
-        },
-        reply::Reading::Refused(k) => WickReply {
-            refusal: k,
-            kind: 0,
-            sequence: 0,
-            data_at: 0,
-            n: 0,
-        },
-    }
+    c_datagrams::reply_out(reply::read(s))
 }
 
 // The error code of a reply datagram.
@@ -453,33 +126,7 @@ pub extern "C" fn wick_reply(s: &[u8]) -> WickReply
 pub extern "C" fn wick_error_code(s: &[u8]) -> WickCode
     ensures { λ w. ⌜ w ≡ codeOut (codeOf (now (s .entry))) ⌝ }
 {
-    let r = reply::error_code(s);
-    match r {
-        reply::Code::Named { code, name } => WickCode {
-            refusal: 0,
-            has_code: 1,
-            code,
-            name,
-        },
-        reply::Code::Number(code) => WickCode {
-            refusal: 0,
-            has_code: 1,
-            code,
-            name: 0,
-        },
-        reply::Code::Absent => WickCode {
-            refusal: 0,
-            has_code: 0,
-            code: 0,
-            name: 0,
-        },
-        reply::Code::Refused(k) => WickCode {
-            refusal: k,
-            has_code: 0,
-            code: 0,
-            name: 0,
-        },
-    }
+    c_datagrams::code_out(reply::error_code(s))
 }
 
 // The number of an error code's name, 0 where it has none.
@@ -487,11 +134,7 @@ pub extern "C" fn wick_error_code(s: &[u8]) -> WickCode
 pub extern "C" fn wick_error_name(code: u8) -> u8
     ensures { λ r. ⌜ r ≡ nameNo (nameOf code) ⌝ }
 {
-    let r = error::name_of(code);
-    match r {
-        error::Name::Number(n) => n,
-        error::Name::Nothing => 0,
-    }
+    c_datagrams::name_out(error::name_of(code))
 }
 
 // Writes a reply.
@@ -499,7 +142,7 @@ pub extern "C" fn wick_error_name(code: u8) -> u8
 pub extern "C" fn wick_write_reply(kind: u8, sequence: u8, data: &[u8], out: &mut [u8]) -> WickWrote
     ensures { λ w. ⌜ WrittenOut (replyFrame kind sequence (now («data» .entry))) (now (out .entry)) w (now (out .exit)) ⌝ }
 {
-    wrote_out(reply::write(kind, sequence, data, out))
+    c_datagrams::wrote_out(writers::reply(kind, sequence, data, out))
 }
 
 // Reads a reply and writes it again.
@@ -507,54 +150,15 @@ pub extern "C" fn wick_write_reply(kind: u8, sequence: u8, data: &[u8], out: &mu
 pub extern "C" fn wick_relay_reply(s: &[u8], out: &mut [u8]) -> WickWrote
     ensures { λ w. ⌜ WrittenOut (relayed (readReply (now (s .entry))) (now (s .entry))) (now (out .entry)) w (now (out .exit)) ⌝ }
 {
-    wrote_out(reply::relay(s, out))
+    c_datagrams::wrote_out(relay::reply(s, out))
 }
 
-// An instance as a number, 0 where there is none; and whether there is one.
-fn instance_no(i: Instance) -> u8
-    ensures { λ r. ⌜ r ≡ instanceNo (saidInstance i) ⌝ }
+// Puts the name of a number of a kind, as text.
+#[no_mangle]
+pub extern "C" fn wick_name(kind: u8, number: u8, out: &mut [u8]) -> WickWrote
+    ensures { λ w. ⌜ WrittenOut (textOf kind number) (now (out .entry)) w (now (out .exit)) ⌝ }
 {
-    match i {
-        Instance::Number(n) => n,
-        Instance::Absent => 0,
-    }
-}
-
-fn instance_is(i: Instance) -> u8
-    ensures { λ r. ⌜ r ≡ instanceIs (saidInstance i) ⌝ }
-{
-    match i {
-        Instance::Number(_) => 1,
-        Instance::Absent => 0,
-    }
-}
-
-// "5A 43, six MAC bytes, three target bytes, event type, n, n data bytes, sum": where the data begin.
-const EVENT_DATA_AT: u64 = 13;
-
-fn event_out(e: Event) -> WickEvent
-    ensures { λ w. ⌜ w ≡ eventOut (full (saidEvent e)) ⌝ }
-{
-    let m = e.mac;
-    let t = e.kind;
-    let i = e.instance;
-    WickEvent {
-        refusal: 0,
-        kind: t.number(),
-        instance: instance_no(i),
-        has_instance: instance_is(i),
-        mac: WickMac {
-            b0: m.0,
-            b1: m.1,
-            b2: m.2,
-            b3: m.3,
-            b4: m.4,
-            b5: m.5,
-        },
-        target: e.target,
-        data_at: EVENT_DATA_AT,
-        n: e.n as u64,
-    }
+    c_datagrams::wrote_out(names::name(kind, number, out))
 }
 
 // Reads an event datagram.
@@ -562,27 +166,7 @@ fn event_out(e: Event) -> WickEvent
 pub extern "C" fn wick_event(s: &[u8]) -> WickEvent
     ensures { λ w. ⌜ w ≡ eventOut (readEvent 3 (now (s .entry))) ⌝ }
 {
-    let r = event::read(s);
-    match r {
-        event::Reading::Accepted(x) => event_out(x),
-        event::Reading::Refused(k) => WickEvent {
-            refusal: k,
-            kind: 0,
-            instance: 0,
-            has_instance: 0,
-            mac: WickMac {
-                b0: 0,
-                b1: 0,
-                b2: 0,
-                b3: 0,
-                b4: 0,
-                b5: 0,
-            },
-            target: 0,
-            data_at: 0,
-            n: 0,
-        },
-    }
+    c_datagrams::event_out(event::read(s))
 }
 
 // Writes an event.
@@ -596,8 +180,7 @@ pub extern "C" fn wick_write_event(
 ) -> WickWrote
     ensures { λ w. ⌜ WrittenOut (eventFrame 3 (macIn mac) target kind (now («data» .entry))) (now (out .entry)) w (now (out .exit)) ⌝ }
 {
-    let m = Mac(mac.b0, mac.b1, mac.b2, mac.b3, mac.b4, mac.b5);
-    wrote_out(event::write(m, target, kind, data, out))
+    c_datagrams::wrote_out(writers::event(c_datagrams::mac_in(mac), target, kind, data, out))
 }
 
 // Reads an event and writes it again.
@@ -605,38 +188,7 @@ pub extern "C" fn wick_write_event(
 pub extern "C" fn wick_relay_event(s: &[u8], out: &mut [u8]) -> WickWrote
     ensures { λ w. ⌜ WrittenOut (relayed (readEvent 3 (now (s .entry))) (now (s .entry))) (now (out .entry)) w (now (out .exit)) ⌝ }
 {
-    wrote_out(event::relay(s, out))
-}
-
-// A number of a map, or a refusal.
-fn map16_out(m: Map16) -> WickNumber
-    ensures { λ r. ⌜ r ≡ numberOut (said16 m) ⌝ }
-{
-    match m {
-        Map16::Bits(n) => WickNumber {
-            refusal: 0,
-            number: n as u64,
-        },
-        Map16::Refused(k) => WickNumber {
-            refusal: k,
-            number: 0,
-        },
-    }
-}
-
-fn lowest_out(m: Lowest) -> WickNumber
-    ensures { λ r. ⌜ r ≡ numberOut (saidLowest m) ⌝ }
-{
-    match m {
-        Lowest::Is(n) => WickNumber {
-            refusal: 0,
-            number: n as u64,
-        },
-        Lowest::Refused(k) => WickNumber {
-            refusal: k,
-            number: 0,
-        },
-    }
+    c_datagrams::wrote_out(relay::event(s, out))
 }
 
 // The event mask of two bytes.
@@ -644,7 +196,7 @@ fn lowest_out(m: Lowest) -> WickNumber
 pub extern "C" fn wick_mask(s: &[u8]) -> WickNumber
     ensures { λ w. ⌜ w ≡ numberOut (maskOf (now (s .entry))) ⌝ }
 {
-    map16_out(maps::mask(s))
+    c_values::map16_out(maps::mask(s))
 }
 
 // How many event types a mask names.
@@ -660,7 +212,7 @@ pub extern "C" fn wick_count_types(mask: u16) -> u32
 pub extern "C" fn wick_lowest_type(mask: u16) -> WickNumber
     ensures { λ w. ⌜ w ≡ numberOut (lowestOf 16 mask) ⌝ }
 {
-    lowest_out(maps::lowest_type(mask))
+    c_values::lowest_out(maps::lowest_type(mask))
 }
 
 // The scenes of a group, from the reply to 1A.
@@ -668,7 +220,7 @@ pub extern "C" fn wick_lowest_type(mask: u16) -> WickNumber
 pub extern "C" fn wick_scenes(s: &[u8]) -> WickNumber
     ensures { λ w. ⌜ w ≡ numberOut (scenesOf (now (s .entry))) ⌝ }
 {
-    map16_out(maps::scenes(s))
+    c_values::map16_out(maps::scenes(s))
 }
 
 // The gear present, from the reply to 1D.
@@ -676,17 +228,7 @@ pub extern "C" fn wick_scenes(s: &[u8]) -> WickNumber
 pub extern "C" fn wick_gear(s: &[u8]) -> WickNumber
     ensures { λ w. ⌜ w ≡ numberOut (gearOf (now (s .entry))) ⌝ }
 {
-    let r = maps::gear(s);
-    match r {
-        Map64::Bits(n) => WickNumber {
-            refusal: 0,
-            number: n,
-        },
-        Map64::Refused(k) => WickNumber {
-            refusal: k,
-            number: 0,
-        },
-    }
+    c_values::map64_out(maps::gear(s))
 }
 
 // How many gear are present.
@@ -702,7 +244,7 @@ pub extern "C" fn wick_count_gear(gear: u64) -> u32
 pub extern "C" fn wick_lowest_gear(gear: u64) -> WickNumber
     ensures { λ w. ⌜ w ≡ numberOut (lowestOf 64 gear) ⌝ }
 {
-    lowest_out(maps::lowest_gear(gear))
+    c_values::lowest_out(maps::lowest_gear(gear))
 }
 
 // The gear types, from the reply to AC.
@@ -710,17 +252,7 @@ pub extern "C" fn wick_lowest_gear(gear: u64) -> WickNumber
 pub extern "C" fn wick_types(s: &[u8]) -> WickNumber
     ensures { λ w. ⌜ w ≡ numberOut (typesOf (now (s .entry))) ⌝ }
 {
-    let r = maps::types(s);
-    match r {
-        Map32::Bits(n) => WickNumber {
-            refusal: 0,
-            number: n as u64,
-        },
-        Map32::Refused(k) => WickNumber {
-            refusal: k,
-            number: 0,
-        },
-    }
+    c_values::map32_out(maps::types(s))
 }
 
 // The mode byte of the filters in the reply to 32, and how many entries follow it.
@@ -728,19 +260,7 @@ pub extern "C" fn wick_types(s: &[u8]) -> WickNumber
 pub extern "C" fn wick_filters(s: &[u8]) -> WickFilters
     ensures { λ w. ⌜ w ≡ filtersOut (filtersOf (now (s .entry))) ⌝ }
 {
-    let r = filters::read(s);
-    match r {
-        Listed::Filters(f) => WickFilters {
-            refusal: 0,
-            mode: f.mode,
-            entries: f.entries as u64,
-        },
-        Listed::Refused(k) => WickFilters {
-            refusal: k,
-            mode: 0,
-            entries: 0,
-        },
-    }
+    c_values::filters_out(filters::read(s))
 }
 
 // Entry i of the filters, counted from 0.
@@ -748,21 +268,7 @@ pub extern "C" fn wick_filters(s: &[u8]) -> WickFilters
 pub extern "C" fn wick_filter(s: &[u8], i: usize) -> WickFilter
     ensures { λ w. ⌜ w ≡ filterOut (entryOf (now (s .entry)) i) ⌝ }
 {
-    let r = filters::entry(s, i);
-    match r {
-        Found::Entry(f) => WickFilter {
-            refusal: 0,
-            address: f.address,
-            instance: f.instance,
-            mask: f.mask,
-        },
-        Found::Refused(k) => WickFilter {
-            refusal: k,
-            address: 0,
-            instance: 0,
-            mask: 0,
-        },
-    }
+    c_values::filter_out(filters::entry(s, i))
 }
 
 // The target on the line of a group by its number.
@@ -770,17 +276,7 @@ pub extern "C" fn wick_filter(s: &[u8], i: usize) -> WickFilter
 pub extern "C" fn wick_group_target(group: u8) -> WickNumber
     ensures { λ w. ⌜ w ≡ lineOut (lineOf (record { 0 = group })) ⌝ }
 {
-    let r = Group(group).line_target();
-    match r {
-        OnLine::At(t) => WickNumber {
-            refusal: 0,
-            number: t.0 as u64,
-        },
-        OnLine::Refused(k) => WickNumber {
-            refusal: k,
-            number: 0,
-        },
-    }
+    c_values::line_out(Group(group).line_target())
 }
 
 // The address of the control device with this number of its own.
@@ -788,17 +284,7 @@ pub extern "C" fn wick_group_target(group: u8) -> WickNumber
 pub extern "C" fn wick_device(number: u8) -> WickNumber
     ensures { λ w. ⌜ w ≡ deviceOut (deviceOf number) ⌝ }
 {
-    let r = Device::of(number);
-    match r {
-        Addressed::At(a) => WickNumber {
-            refusal: 0,
-            number: a.0 as u64,
-        },
-        Addressed::Refused(k) => WickNumber {
-            refusal: k,
-            number: 0,
-        },
-    }
+    c_values::device_out(Device::of(number))
 }
 
 // The own number of the control device at an address.
@@ -806,17 +292,7 @@ pub extern "C" fn wick_device(number: u8) -> WickNumber
 pub extern "C" fn wick_device_number(address: u8) -> WickNumber
     ensures { λ w. ⌜ w ≡ numberOut (deviceNumber (record { 0 = address })) ⌝ }
 {
-    let r = Device(address).number();
-    match r {
-        Numbered::Own(n) => WickNumber {
-            refusal: 0,
-            number: n as u64,
-        },
-        Numbered::Refused(k) => WickNumber {
-            refusal: k,
-            number: 0,
-        },
-    }
+    c_values::own_out(Device(address).number())
 }
 
 // What a lighting command with this target lights.
@@ -824,7 +300,7 @@ pub extern "C" fn wick_device_number(address: u8) -> WickNumber
 pub extern "C" fn wick_lights(target: u8) -> WickAim
     ensures { λ w. ⌜ w ≡ aimOut (lightsOf (record { 0 = target })) ⌝ }
 {
-    aim_out(LineTarget(target).lights())
+    c_datagrams::aim_out(LineTarget(target).lights())
 }
 
 // What a query of gear status with this target asks about.
@@ -832,28 +308,7 @@ pub extern "C" fn wick_lights(target: u8) -> WickAim
 pub extern "C" fn wick_status(target: u8) -> WickAim
     ensures { λ w. ⌜ w ≡ aimOut (statusOf (record { 0 = target })) ⌝ }
 {
-    aim_out(LineTarget(target).status())
-}
-
-// A book of crate book, and back.
-fn book_in(b: WickBook) -> Book
-    ensures { λ r. ⌜ r ≡ bookIn b ⌝ }
-{
-    let asked = b.asked;
-    Book {
-        asked,
-        last: b.last,
-    }
-}
-
-fn book_out(b: Book) -> WickBook
-    ensures { λ r. ⌜ r ≡ bookOut b ⌝ }
-{
-    let asked = b.asked;
-    WickBook {
-        asked,
-        last: b.last,
-    }
+    c_datagrams::aim_out(LineTarget(target).status())
 }
 
 // A book in which nothing is held, and whose first number is 0.
@@ -861,7 +316,7 @@ fn book_out(b: Book) -> WickBook
 pub extern "C" fn wick_book() -> WickBook
     ensures { λ r. ⌜ r ≡ bookOut freshBook ⌝ }
 {
-    book_out(book::fresh())
+    c_values::book_out(book::fresh())
 }
 
 // Asks with a command: the sequence number for the request, and the book afterwards.
@@ -869,21 +324,7 @@ pub extern "C" fn wick_book() -> WickBook
 pub extern "C" fn wick_ask(book: WickBook, command: u8) -> WickBooked
     ensures { λ w. ⌜ w ≡ askedOut (bookIn book) command ⌝ }
 {
-    let r = book::ask(book_in(book), command);
-    let answer = r.answer;
-    let after = book_out(r.book);
-    match answer {
-        book::Given::Number(n) => WickBooked {
-            refusal: 0,
-            answer: n,
-            book: after,
-        },
-        book::Given::Refused(k) => WickBooked {
-            refusal: k,
-            answer: 0,
-            book: after,
-        },
-    }
+    c_values::asked_out(book::ask(c_values::book_in(book), command))
 }
 
 // Takes a reply's sequence number: the command that was asked under it, and the book afterwards.
@@ -891,69 +332,7 @@ pub extern "C" fn wick_ask(book: WickBook, command: u8) -> WickBooked
 pub extern "C" fn wick_answer(book: WickBook, number: u8) -> WickBooked
     ensures { λ w. ⌜ w ≡ repliedOut (bookIn book) number ⌝ }
 {
-    let r = book::reply(book_in(book), number);
-    let answer = r.answer;
-    let after = book_out(r.book);
-    match answer {
-        book::Freed::Command(c) => WickBooked {
-            refusal: 0,
-            answer: c,
-            book: after,
-        },
-        book::Freed::Refused(k) => WickBooked {
-            refusal: k,
-            answer: 0,
-            book: after,
-        },
-    }
-}
-
-// The line by its number: 0 the request line, any other the reply line.
-fn line_by(on: u8) -> Line
-    ensures { λ r. ⌜ r ≡ lineBy on ⌝ }
-{
-    if on == 0 { Line::Request } else { Line::Reply }
-}
-
-// A reader of crate reader, and back.
-fn reader_in(w: WickReader) -> Held
-    ensures { λ r. ⌜ r ≡ readerIn w ⌝ }
-{
-    let bytes = w.bytes;
-    Held { bytes, len: w.len }
-}
-
-fn reader_out(h: Held) -> WickReader
-    ensures { λ r. ⌜ r ≡ readerOut h ⌝ }
-{
-    let bytes = h.bytes;
-    WickReader { bytes, len: h.len }
-}
-
-fn given_out(g: Given) -> WickGiven
-    ensures { λ r. ⌜ r ≡ givenOut g ⌝ }
-{
-    let reader = reader_out(g.held);
-    let bytes = g.bytes;
-    let got = g.got;
-    match got {
-        Got::Item(k) => WickGiven {
-            reader,
-            taken: g.taken,
-            has_item: 1,
-            item: k,
-            count: g.count,
-            bytes,
-        },
-        Got::Nothing => WickGiven {
-            reader,
-            taken: g.taken,
-            has_item: 0,
-            item: 0,
-            count: g.count,
-            bytes,
-        },
-    }
+    c_values::replied_out(book::reply(c_values::book_in(book), number))
 }
 
 // A reader that holds nothing.
@@ -961,7 +340,7 @@ fn given_out(g: Given) -> WickGiven
 pub extern "C" fn wick_reader() -> WickReader
     ensures { λ r. ⌜ r ≡ readerOut (hold []) ⌝ }
 {
-    reader_out(reader::fresh())
+    c_values::reader_out(reader::fresh())
 }
 
 // Feeds a reader of a line with a part.
@@ -969,7 +348,7 @@ pub extern "C" fn wick_reader() -> WickReader
 pub extern "C" fn wick_feed(on: u8, reader: WickReader, part: &[u8]) -> WickGiven
     ensures { λ w. ⌜ w ≡ fedOut (lineBy on) (readerIn reader) (now (part .entry)) ⌝ }
 {
-    given_out(reader::feed(line_by(on), reader_in(reader), part))
+    c_values::given_out(reader::feed(c_values::line_by(on), c_values::reader_in(reader), part))
 }
 
 // Closes a reader of a line: the next item of the bytes that it holds.
@@ -977,7 +356,7 @@ pub extern "C" fn wick_feed(on: u8, reader: WickReader, part: &[u8]) -> WickGive
 pub extern "C" fn wick_close(on: u8, reader: WickReader) -> WickGiven
     ensures { λ w. ⌜ w ≡ closedOut (lineBy on) (readerIn reader) ⌝ }
 {
-    given_out(reader::close(line_by(on), reader_in(reader)))
+    c_values::given_out(reader::close(c_values::line_by(on), c_values::reader_in(reader)))
 }
 
 // What stands at a position of a line from which on these bytes are there, and no more where it is closed (not 0).
@@ -985,17 +364,5 @@ pub extern "C" fn wick_close(on: u8, reader: WickReader) -> WickGiven
 pub extern "C" fn wick_item_at(on: u8, closed: u8, s: &[u8]) -> WickItem
     ensures { λ w. ⌜ w ≡ positionOut (itemAt (lineBy on) (not (eqb closed 0)) (now (s .entry))) ⌝ }
 {
-    let r = line::item_at(line_by(on), closed != 0, s);
-    match r {
-        At::Item(k, m) => WickItem {
-            has_item: 1,
-            item: k,
-            count: m,
-        },
-        At::Nothing => WickItem {
-            has_item: 0,
-            item: 0,
-            count: 0,
-        },
-    }
+    c_values::item_out(line::item_at(c_values::line_by(on), closed != 0, s))
 }

@@ -4,7 +4,7 @@ use lib.ListN.{length}
 use native.Mathlib.Omega.{arith}
 use borrow.Author.Needs.{needs}
 use Rattle.bench_words.specs.Words.{wordsAt}
-use Rattle.bench_words.specs.Places.{until-within}
+use Rattle.words.specs.Places.{until-within}
 use Rattle.bench_calls.specs.Table.{placeIn}
 use Rattle.bench_calls.specs.Rows.{place-here, place-on, place-end}
 use Rattle.bench_calls.proofs.place.Statement.{statement}

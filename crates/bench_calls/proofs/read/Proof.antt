@@ -1,6 +1,7 @@
 use mathlib.Core.Path.{_≡_, refl}
 use native.Mathlib.Omega.{arith}
-use Rattle.bench_words.specs.Places.{blanks-most, until-within}
+use Rattle.words.specs.Places.{until-within}
+use Rattle.bench_words.specs.Places.{blanks-most}
 use Rattle.bench_words.specs.declared.Parsed.the-variants.{Groups as Parsed-groups, NotAByte as Parsed-not}
 use Rattle.bench_calls.specs.Lines.{calls-none, calls-parsed}
 use borrow.Author.Needs.{needs}

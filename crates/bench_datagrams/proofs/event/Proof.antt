@@ -1,4 +1,5 @@
-use Rattle.bench_say.specs.Laws.{puts-append}
+use Rattle.bench_say.specs.Laws.{puts-append, puts-none, puts-same}
+use Rattle.bench_datagrams.specs.Pieces.{kind-of, instance-of}
 use borrow.Author.Needs.{needs}
 use Rattle.bench_datagrams.proofs.event.Statement.{statement}
 use Rattle.bench_datagrams.proofs.event.Tie as tie
@@ -15,41 +16,36 @@ slice-aggregate-run-2 c = search needs
 run-requires : tie.Need-run-requires
 run-requires c κs = search needs
 
-slice-aggregate-wide : tie.Need-slice-aggregate-wide
-slice-aggregate-wide c = search needs
-
-wide-requires : tie.Need-wide-requires
-wide-requires c κs = search needs
+cast-kind : tie.Need-cast-kind
+cast-kind c = search needs
 
 kind-requires : tie.Need-kind-requires
 kind-requires c κs = search needs
 
-slice-aggregate-size : tie.Need-slice-aggregate-size
-slice-aggregate-size c = search needs
-
-size-requires : tie.Need-size-requires
-size-requires c κs = search needs
+put-requires : tie.Need-put-requires
+put-requires c κs = search needs
 
 instance-requires : tie.Need-instance-requires
 instance-requires c κs = search needs
 
-enum-known-d-2 : tie.Need-enum-known-d-2
-enum-known-d-2 c = search needs
+put-requires-2 : tie.Need-put-requires-2
+put-requires-2 c κs = search needs
 
-refusal-requires : tie.Need-refusal-requires
-refusal-requires c κs = search needs
+enum-told : tie.Need-enum-told
+enum-told c = search needs
 
 same-length : tie.Need-same-length
 same-length c = search needs
 
 returns : tie.Need-returns
-returns c = rw (c .before .before .before .before .before .before .before .before .before .before .before .before .before .before .before .before .before .before .before .before .before .before .before .before .before .before .d .given .1) (puts-append (c .before .before .before .before .before .before .before .before .before .before .before .before .before .before .before .before .before .before .before .before .run .ensures) (puts-append (c .before .before .before .before .before .before .before .before .before .before .before .before .before .before .before .wide .ensures) (puts-append (c .before .before .before .before .before .before .before .before .before .before .before .kind .ensures) (puts-append (c .before .before .before .before .before .before .size .ensures) (c .before .before .instance .ensures)))))
-
-same-length-2 : tie.Need-same-length-2
-same-length-2 c = search needs
+returns c =
+    let v = c .before .before .before .before .before .before .before .before .before .before .before .before .before .before .before .before .before .before .before .d .given .0 .0 in
+    rw (c .before .before .before .before .before .before .before .before .before .before .before .before .before .before .before .before .before .before .before .d .given .1)
+    (puts-append (c .before .before .before .before .before .before .before .before .before .before .before .before .before .run .ensures)
+    (puts-append (puts-same (kind-of (v .target) (v .kind) (c .before .before .before .before .before .before .before .before .kind .ensures)) (c .before .before .before .before .before .before .before .put .ensures)) (puts-same (instance-of (v .n) (v .instance) (c .before .before .before .instance .ensures)) (c .before .before .put2 .ensures))))
 
 returns-2 : tie.Need-returns-2
-returns-2 c = rw (c .before .before .before .before .before .d2 .given .1) (c .before .before .refusal .ensures)
+returns-2 c = rw (c .enum-told .given .1) (puts-none _ _)
 
 pub event-spec : {M : Type 1} → statement M
 event-spec =
@@ -59,15 +55,12 @@ event-spec =
     slice-aggregate-run
     slice-aggregate-run-2
     run-requires
-    slice-aggregate-wide
-    wide-requires
+    cast-kind
     kind-requires
-    slice-aggregate-size
-    size-requires
+    put-requires
     instance-requires
-    enum-known-d-2
-    refusal-requires
+    put-requires-2
+    enum-told
     same-length
     returns
-    same-length-2
     returns-2)

@@ -1,10 +1,14 @@
-use Rattle.bench_say.specs.Laws.{puts-append}
+use Rattle.bench_say.specs.Laws.{puts-append, puts-same}
+use Rattle.bench_datagrams.specs.Pieces.{count-of}
 use borrow.Author.Needs.{needs}
 use Rattle.bench_datagrams.proofs.wrote.Statement.{statement}
 use Rattle.bench_datagrams.proofs.wrote.Tie as tie
 
 count-requires : tie.Need-count-requires
 count-requires c κs = search needs
+
+put-requires : tie.Need-put-requires
+put-requires c κs = search needs
 
 slice-aggregate-run : tie.Need-slice-aggregate-run
 slice-aggregate-run c = search needs
@@ -22,13 +26,14 @@ same-length : tie.Need-same-length
 same-length c = search needs
 
 returns : tie.Need-returns
-returns c = puts-append (c .before .before .before .before .before .before .before .before .before .before .before .before .count .ensures) (puts-append (c .before .before .before .before .before .before .before .run .ensures) (c .before .before .run2 .ensures))
+returns c = puts-append (puts-same (count-of (c .before .before .before .before .before .before .before .before .before .before .before .before .before .before .before .before .before .before .args .w) (c .before .before .before .before .before .before .before .before .before .before .before .before .before .count .ensures)) (c .before .before .before .before .before .before .before .before .before .before .before .before .put .ensures)) (puts-append (c .before .before .before .before .before .before .before .run .ensures) (c .before .before .run2 .ensures))
 
 pub wrote-spec : {M : Type 1} → statement M
 wrote-spec =
     tie.close
     (tie.spec
     count-requires
+    put-requires
     slice-aggregate-run
     run-requires
     slice-aggregate-run-2

@@ -5,40 +5,17 @@ use Rattle.bench_maps.proofs.bits64.Tie as tie
 enum-known-m : tie.Need-enum-known-m
 enum-known-m c = search needs
 
-slice-aggregate-field : tie.Need-slice-aggregate-field
-slice-aggregate-field c = search needs
-
-field-requires : tie.Need-field-requires
-field-requires c κs = search needs
-
 enum-known-m-2 : tie.Need-enum-known-m-2
 enum-known-m-2 c = search needs
 
-refusal-requires : tie.Need-refusal-requires
-refusal-requires c κs = search needs
-
-same-length : tie.Need-same-length
-same-length c = search needs
+cast-t5 : tie.Need-cast-t5
+cast-t5 c = search needs
 
 returns : tie.Need-returns
-returns c = rw (c .before .before .before .before .before .before .m .given .1) (c .before .before .field .ensures)
-
-same-length-2 : tie.Need-same-length-2
-same-length-2 c = search needs
+returns c = rw (c .before .m .given .1)
 
 returns-2 : tie.Need-returns-2
-returns-2 c = rw (c .before .before .before .before .before .m2 .given .1) (c .before .before .refusal .ensures)
+returns-2 c = rw (c .before .m2 .given .1)
 
 pub bits64-spec : {M : Type 1} → statement M
-bits64-spec =
-    tie.close
-    (tie.spec
-    enum-known-m
-    slice-aggregate-field
-    field-requires
-    enum-known-m-2
-    refusal-requires
-    same-length
-    returns
-    same-length-2
-    returns-2)
+bits64-spec = tie.close (tie.spec enum-known-m enum-known-m-2 cast-t5 returns returns-2)

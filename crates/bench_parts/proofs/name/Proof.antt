@@ -5,44 +5,17 @@ use Rattle.bench_parts.proofs.name.Tie as tie
 enum-known-n : tie.Need-enum-known-n
 enum-known-n c = search needs
 
-slice-aggregate-small : tie.Need-slice-aggregate-small
-slice-aggregate-small c = search needs
-
-small-requires : tie.Need-small-requires
-small-requires c κs = search needs
+cast-t4 : tie.Need-cast-t4
+cast-t4 c = search needs
 
 enum-told : tie.Need-enum-told
 enum-told c = search needs
 
-slice-aggregate-word : tie.Need-slice-aggregate-word
-slice-aggregate-word c = search needs
-
-word-requires : tie.Need-word-requires
-word-requires c κs = search needs
-
-same-length : tie.Need-same-length
-same-length c = search needs
-
 returns : tie.Need-returns
-returns c = rw (c .before .before .before .before .before .before .n .given .1) (c .before .before .small .ensures)
-
-same-length-2 : tie.Need-same-length-2
-same-length-2 c = search needs
+returns c = rw (c .before .n .given .1)
 
 returns-2 : tie.Need-returns-2
-returns-2 c = rw (c .before .before .before .before .before .enum-told .given .1) (c .before .before .word .ensures)
+returns-2 c = rw (c .enum-told .given .1)
 
 pub name-spec : {M : Type 1} → statement M
-name-spec =
-    tie.close
-    (tie.spec
-    enum-known-n
-    slice-aggregate-small
-    small-requires
-    enum-told
-    slice-aggregate-word
-    word-requires
-    same-length
-    returns
-    same-length-2
-    returns-2)
+name-spec = tie.close (tie.spec enum-known-n cast-t4 enum-told returns returns-2)

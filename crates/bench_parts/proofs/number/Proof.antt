@@ -5,40 +5,20 @@ use Rattle.bench_parts.proofs.number.Tie as tie
 enum-known-n : tie.Need-enum-known-n
 enum-known-n c = search needs
 
-slice-aggregate-small : tie.Need-slice-aggregate-small
-slice-aggregate-small c = search needs
-
-small-requires : tie.Need-small-requires
-small-requires c κs = search needs
+cast-t5 : tie.Need-cast-t5
+cast-t5 c = search needs
 
 enum-known-n-2 : tie.Need-enum-known-n-2
 enum-known-n-2 c = search needs
 
-refusal-requires : tie.Need-refusal-requires
-refusal-requires c κs = search needs
-
-same-length : tie.Need-same-length
-same-length c = search needs
+cast-t6 : tie.Need-cast-t6
+cast-t6 c = search needs
 
 returns : tie.Need-returns
-returns c = rw (c .before .before .before .before .before .before .n .given .1) (c .before .before .small .ensures)
-
-same-length-2 : tie.Need-same-length-2
-same-length-2 c = search needs
+returns c = rw (c .before .n .given .1)
 
 returns-2 : tie.Need-returns-2
-returns-2 c = rw (c .before .before .before .before .before .n2 .given .1) (c .before .before .refusal .ensures)
+returns-2 c = rw (c .before .n2 .given .1)
 
 pub number-spec : {M : Type 1} → statement M
-number-spec =
-    tie.close
-    (tie.spec
-    enum-known-n
-    slice-aggregate-small
-    small-requires
-    enum-known-n-2
-    refusal-requires
-    same-length
-    returns
-    same-length-2
-    returns-2)
+number-spec = tie.close (tie.spec enum-known-n cast-t5 enum-known-n-2 cast-t6 returns returns-2)

@@ -1,140 +1,24 @@
+use Rattle.bench_say.specs.Laws.{puts-same}
+use Rattle.bench_parts.specs.Pieces.{part-of}
 use borrow.Author.Needs.{needs}
 use Rattle.bench_parts.proofs.say.Statement.{statement}
 use Rattle.bench_parts.proofs.say.Tie as tie
 
-enum-known-p : tie.Need-enum-known-p
-enum-known-p c = search needs
+slice-aggregate-put : tie.Need-slice-aggregate-put
+slice-aggregate-put c = search needs
 
-slice-aggregate-byte : tie.Need-slice-aggregate-byte
-slice-aggregate-byte c = search needs
+answer-requires : tie.Need-answer-requires
+answer-requires c κs = search needs
 
-byte-requires : tie.Need-byte-requires
-byte-requires c κs = search needs
-
-enum-known-p-2 : tie.Need-enum-known-p-2
-enum-known-p-2 c = search needs
-
-known-requires : tie.Need-known-requires
-known-requires c κs = search needs
-
-enum-known-p-3 : tie.Need-enum-known-p-3
-enum-known-p-3 c = search needs
-
-shape-requires : tie.Need-shape-requires
-shape-requires c κs = search needs
-
-enum-known-p-4 : tie.Need-enum-known-p-4
-enum-known-p-4 c = search needs
-
-fits-requires : tie.Need-fits-requires
-fits-requires c κs = search needs
-
-enum-known-p-5 : tie.Need-enum-known-p-5
-enum-known-p-5 c = search needs
-
-name-requires : tie.Need-name-requires
-name-requires c κs = search needs
-
-enum-known-p-6 : tie.Need-enum-known-p-6
-enum-known-p-6 c = search needs
-
-on-line-requires : tie.Need-on-line-requires
-on-line-requires c κs = search needs
-
-enum-known-p-7 : tie.Need-enum-known-p-7
-enum-known-p-7 c = search needs
-
-device-requires : tie.Need-device-requires
-device-requires c κs = search needs
-
-enum-known-p-8 : tie.Need-enum-known-p-8
-enum-known-p-8 c = search needs
-
-number-requires : tie.Need-number-requires
-number-requires c κs = search needs
+put-requires : tie.Need-put-requires
+put-requires c κs = search needs
 
 same-length : tie.Need-same-length
 same-length c = search needs
 
 returns : tie.Need-returns
-returns c = rw (c .before .before .before .before .before .before .p .given .1) (c .before .before .byte .ensures)
-
-same-length-2 : tie.Need-same-length-2
-same-length-2 c = search needs
-
-returns-2 : tie.Need-returns-2
-returns-2 c = rw (c .before .before .before .before .before .p2 .given .1) (c .before .before .known .ensures)
-
-same-length-3 : tie.Need-same-length-3
-same-length-3 c = search needs
-
-returns-3 : tie.Need-returns-3
-returns-3 c = rw (c .before .before .before .before .before .p3 .given .1) (c .before .before .shape .ensures)
-
-same-length-4 : tie.Need-same-length-4
-same-length-4 c = search needs
-
-returns-4 : tie.Need-returns-4
-returns-4 c = rw (c .before .before .before .before .before .p4 .given .1) (c .before .before .fits2 .ensures)
-
-same-length-5 : tie.Need-same-length-5
-same-length-5 c = search needs
-
-returns-5 : tie.Need-returns-5
-returns-5 c = rw (c .before .before .before .before .before .p5 .given .1) (c .before .before .name .ensures)
-
-same-length-6 : tie.Need-same-length-6
-same-length-6 c = search needs
-
-returns-6 : tie.Need-returns-6
-returns-6 c = rw (c .before .before .before .before .before .p6 .given .1) (c .before .before .on-line .ensures)
-
-same-length-7 : tie.Need-same-length-7
-same-length-7 c = search needs
-
-returns-7 : tie.Need-returns-7
-returns-7 c = rw (c .before .before .before .before .before .p7 .given .1) (c .before .before .device .ensures)
-
-same-length-8 : tie.Need-same-length-8
-same-length-8 c = search needs
-
-returns-8 : tie.Need-returns-8
-returns-8 c = rw (c .before .before .before .before .before .p8 .given .1) (c .before .before .number .ensures)
+returns c = puts-same (part-of (c .before .before .before .before .before .before .before .args .p) (c .before .before .before .answer .ensures)) (c .before .before .put .ensures)
 
 pub say-spec : {M : Type 1} → statement M
 say-spec =
-    tie.close
-    (tie.spec
-    enum-known-p
-    slice-aggregate-byte
-    byte-requires
-    enum-known-p-2
-    known-requires
-    enum-known-p-3
-    shape-requires
-    enum-known-p-4
-    fits-requires
-    enum-known-p-5
-    name-requires
-    enum-known-p-6
-    on-line-requires
-    enum-known-p-7
-    device-requires
-    enum-known-p-8
-    number-requires
-    same-length
-    returns
-    same-length-2
-    returns-2
-    same-length-3
-    returns-3
-    same-length-4
-    returns-4
-    same-length-5
-    returns-5
-    same-length-6
-    returns-6
-    same-length-7
-    returns-7
-    same-length-8
-    returns-8)
+    tie.close (tie.spec slice-aggregate-put answer-requires put-requires same-length returns)

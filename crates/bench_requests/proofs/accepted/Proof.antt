@@ -1,37 +1,26 @@
-use Rattle.bench_say.specs.Laws.{puts-append}
+use Rattle.bench_say.specs.Laws.{puts-none}
 use borrow.Author.Needs.{needs}
 use Rattle.bench_requests.proofs.accepted.Statement.{statement}
 use Rattle.bench_requests.proofs.accepted.Tie as tie
 
-slice-aggregate-small : tie.Need-slice-aggregate-small
-slice-aggregate-small c = search needs
-
-small-requires : tie.Need-small-requires
-small-requires c κs = search needs
-
-slice-aggregate-byte : tie.Need-slice-aggregate-byte
-slice-aggregate-byte c = search needs
-
-byte-requires : tie.Need-byte-requires
-byte-requires c κs = search needs
+enum-known-r : tie.Need-enum-known-r
+enum-known-r c = search needs
 
 contents-requires : tie.Need-contents-requires
 contents-requires c κs = search needs
+
+enum-told : tie.Need-enum-told
+enum-told c = search needs
 
 same-length : tie.Need-same-length
 same-length c = search needs
 
 returns : tie.Need-returns
-returns c = puts-append (c .before .before .before .before .before .before .before .before .before .before .before .small .ensures) (puts-append (c .before .before .before .before .before .before .byte .ensures) (c .before .before .contents .ensures))
+returns c = rw (c .before .before .before .before .before .r .given .1) (c .before .before .contents .ensures)
+
+returns-2 : tie.Need-returns-2
+returns-2 c = rw (c .enum-told .given .1) (puts-none _ _)
 
 pub accepted-spec : {M : Type 1} → statement M
 accepted-spec =
-    tie.close
-    (tie.spec
-    slice-aggregate-small
-    small-requires
-    slice-aggregate-byte
-    byte-requires
-    contents-requires
-    same-length
-    returns)
+    tie.close (tie.spec enum-known-r contents-requires enum-told same-length returns returns-2)

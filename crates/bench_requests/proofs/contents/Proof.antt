@@ -1,4 +1,6 @@
-use Rattle.bench_say.specs.Laws.{puts-append}
+use Rattle.bench_say.specs.Laws.{puts-append, puts-same}
+use Rattle.words.specs.Words.{before, wordIn}
+use Rattle.bench_requests.specs.Pieces.{meaning-of}
 use borrow.Author.Needs.{needs}
 use Rattle.bench_requests.proofs.contents.Statement.{statement}
 use Rattle.bench_requests.proofs.contents.Tie as tie
@@ -18,50 +20,45 @@ run-requires c κs = search needs
 meaning-requires : tie.Need-meaning-requires
 meaning-requires c κs = search needs
 
+put-requires : tie.Need-put-requires
+put-requires c κs = search needs
+
 enum-known-c-2 : tie.Need-enum-known-c-2
 enum-known-c-2 c = search needs
 
-slice-aggregate-middle : tie.Need-slice-aggregate-middle
-slice-aggregate-middle c = search needs
+cast-t24 : tie.Need-cast-t24
+cast-t24 c = search needs
 
-middle-requires : tie.Need-middle-requires
-middle-requires c κs = search needs
+cast-t25 : tie.Need-cast-t25
+cast-t25 c = search needs
 
-slice-aggregate-small : tie.Need-slice-aggregate-small
-slice-aggregate-small c = search needs
+cast-t26 : tie.Need-cast-t26
+cast-t26 c = search needs
 
-small-requires : tie.Need-small-requires
-small-requires c κs = search needs
+put-requires-2 : tie.Need-put-requires-2
+put-requires-2 c κs = search needs
 
-slice-aggregate-small-2 : tie.Need-slice-aggregate-small-2
-slice-aggregate-small-2 c = search needs
+cast-t24-2 : tie.Need-cast-t24-2
+cast-t24-2 c = search needs
 
-small-requires-2 : tie.Need-small-requires-2
-small-requires-2 c κs = search needs
+cast-t25-2 : tie.Need-cast-t25-2
+cast-t25-2 c = search needs
 
-slice-aggregate-small-3 : tie.Need-slice-aggregate-small-3
-slice-aggregate-small-3 c = search needs
-
-small-requires-3 : tie.Need-small-requires-3
-small-requires-3 c κs = search needs
-
-slice-aggregate-small-4 : tie.Need-slice-aggregate-small-4
-slice-aggregate-small-4 c = search needs
-
-small-requires-4 : tie.Need-small-requires-4
-small-requires-4 c κs = search needs
+put-requires-3 : tie.Need-put-requires-3
+put-requires-3 c κs = search needs
 
 same-length : tie.Need-same-length
 same-length c = search needs
 
 returns : tie.Need-returns
-returns c = rw (c .before .before .before .before .before .before .before .before .before .before .before .c .given .1) (puts-append (c .before .before .before .before .before .before .run .ensures) (c .before .before .meaning .ensures))
+returns c = rw (c .before .before .before .before .before .before .before .before .before .before .before .before .c .given .1) (puts-append (c .before .before .before .before .before .before .before .run .ensures) (puts-same (meaning-of (c .before .before .before .before .before .before .before .before .before .before .before .before .c .given .0 .1 .0) (c .before .before .before .meaning .ensures)) (c .before .before .put .ensures)))
 
 same-length-2 : tie.Need-same-length-2
 same-length-2 c = search needs
 
 returns-2 : tie.Need-returns-2
-returns-2 c = rw (c .before .before .before .before .before .before .before .before .before .before .before .before .before .before .before .before .before .before .before .before .before .before .before .before .before .before .c2 .given .1) (puts-append (c .before .before .before .before .before .before .before .before .before .before .before .before .before .before .before .before .before .before .before .before .before .before .middle .ensures) (puts-append (c .before .before .before .before .before .before .before .before .before .before .before .before .before .before .before .before .before .small .ensures) (puts-append (c .before .before .before .before .before .before .before .before .before .before .before .before .small2 .ensures) (puts-append (c .before .before .before .before .before .before .before .small3 .ensures) (c .before .before .small4 .ensures)))))
+unfolding before wordIn
+returns-2 c = rw (c .before .before .before .before .before .before .before .before .before .before .before .before .before .c2 .given .1) (puts-append (c .before .before .before .before .before .before .before .before .put2 .ensures) (c .before .before .put3 .ensures))
 
 pub contents-spec : {M : Type 1} → statement M
 contents-spec =
@@ -72,17 +69,15 @@ contents-spec =
     slice-aggregate-run-2
     run-requires
     meaning-requires
+    put-requires
     enum-known-c-2
-    slice-aggregate-middle
-    middle-requires
-    slice-aggregate-small
-    small-requires
-    slice-aggregate-small-2
-    small-requires-2
-    slice-aggregate-small-3
-    small-requires-3
-    slice-aggregate-small-4
-    small-requires-4
+    cast-t24
+    cast-t25
+    cast-t26
+    put-requires-2
+    cast-t24-2
+    cast-t25-2
+    put-requires-3
     same-length
     returns
     same-length-2

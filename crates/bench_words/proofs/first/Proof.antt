@@ -1,5 +1,5 @@
 use Prim.Native.Nat.{_+_, _-_}
-use mathlib.Core.Path.{_≡_, refl}
+use mathlib.Core.Path.{_≡_}
 use lib.ListN.{length, drop}
 use native.Mathlib.Omega.{arith}
 use borrow.Author.Needs.{needs}

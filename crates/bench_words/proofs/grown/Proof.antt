@@ -1,7 +1,7 @@
 use Rattle.refusal.specs.Test.{tests}
 use mathlib.Core.Path.{_≡_, sym, _∙_}
 use mathlib.Core.Logic.{⊎-elim}
-use borrow.Author.Tests.{lt-ltb, le-ltb, le-leb, lt-leb, eq-eqb, ne-eqb}
+use borrow.Author.Tests.{lt-ltb, le-ltb, le-leb, lt-leb}
 use Rattle.bench_words.specs.Groups.{wordOf}
 use Rattle.bench_words.specs.declared.Word.the-variants.{Nothing, Slash, Byte, Other}
 use Rattle.bench_words.specs.Turns.{grows-nothing, grows-slash, grows-other, grows-full, grows-byte}

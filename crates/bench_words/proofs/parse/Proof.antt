@@ -4,7 +4,7 @@ use mathlib.Core.Path.{_≡_}
 use lib.ListN.{length}
 use native.Mathlib.Omega.{arith}
 use borrow.Author.Needs.{needs}
-use Rattle.bench_words.specs.Places.{until-within}
+use Rattle.words.specs.Places.{until-within}
 use Rattle.bench_words.specs.Turns.{Under, under-start, under-turn, under-other, under-done}
 use Rattle.bench_words.proofs.parse.Statement.{statement}
 use Rattle.bench_words.proofs.parse.Tie as tie

@@ -27,8 +27,14 @@ shared-slice-read-t15 c = search needs
 shared-slice-read-high-first-of-three : tie.Need-shared-slice-read-high-first-of-three
 shared-slice-read-high-first-of-three c = search needs
 
+add-high-first-of-three : tie.Need-add-high-first-of-three
+add-high-first-of-three c = search needs
+
 shared-slice-read-high-first-of-three-2 : tie.Need-shared-slice-read-high-first-of-three-2
 shared-slice-read-high-first-of-three-2 c = search needs
+
+add-high-first-of-three-2 : tie.Need-add-high-first-of-three-2
+add-high-first-of-three-2 c = search needs
 
 shared-slice-read-high-first-of-three-3 : tie.Need-shared-slice-read-high-first-of-three-3
 shared-slice-read-high-first-of-three-3 c = search needs
@@ -39,11 +45,11 @@ high-first-of-three-requires c κs = search needs
 of-requires : tie.Need-of-requires
 of-requires c κs = search needs
 
-shared-slice-read-t26 : tie.Need-shared-slice-read-t26
-shared-slice-read-t26 c = search needs
+shared-slice-read-t28 : tie.Need-shared-slice-read-t28
+shared-slice-read-t28 c = search needs
 
-cast-t27 : tie.Need-cast-t27
-cast-t27 c = omega (arith, c .shared-slice-known12 .given 12)
+cast-t29 : tie.Need-cast-t29
+cast-t29 c = omega (arith, c .shared-slice-known12 .given 12)
 
 shared-slice-read-instance-of : tie.Need-shared-slice-read-instance-of
 shared-slice-read-instance-of c = search needs
@@ -66,12 +72,14 @@ event-in-spec =
     shared-slice-read-t13
     shared-slice-read-t15
     shared-slice-read-high-first-of-three
+    add-high-first-of-three
     shared-slice-read-high-first-of-three-2
+    add-high-first-of-three-2
     shared-slice-read-high-first-of-three-3
     high-first-of-three-requires
     of-requires
-    shared-slice-read-t26
-    cast-t27
+    shared-slice-read-t28
+    cast-t29
     shared-slice-read-instance-of
     instance-of-requires
     returns)

@@ -1,11 +1,11 @@
 use Prim.Native.Nat.{_+_, _-_, _≤_}
-use mathlib.Core.Path.{_≡_, refl, sym, ap, _∙_}
+use mathlib.Core.Path.{_≡_, sym, ap, _∙_}
 use lib.ListN.{length, take, drop, length-drop}
 use lib.Seq.{take-all}
 use native.Mathlib.Omega.{arith}
 use borrow.Author.Needs.{needs}
 use Rattle.lent.specs.Over.{puts-length}
-use Rattle.stream.specs.Stream.{nothing, stands}
+use Rattle.stream.specs.Stream.{stands}
 use Rattle.line.specs.Rule.{itemAt}
 use Rattle.line.specs.Said.{saidAt}
 use Rattle.line.specs.Says.{stands-at}

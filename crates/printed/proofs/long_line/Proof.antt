@@ -1,5 +1,5 @@
 use Prim.Native.Nat.{_+_, _≤_, _<_}
-use mathlib.Core.Path.{_≡_, refl, sym}
+use mathlib.Core.Path.{_≡_, sym}
 use lib.ListN.{length, take, length-set}
 use lib.Seq.{length-take-le}
 use native.Mathlib.Omega.{arith}

@@ -1,9 +1,5 @@
-use Prim.Native.Nat.{ℕ}
-use mathlib.Core.Path.{_≡_, sym, ap, _∙_}
-use mathlib.Core.List.{List}
-use lib.ListN.{length, take, drop, length-take}
+use lib.ListN.{length, take, length-take}
 use native.Mathlib.Omega.{arith}
-use borrow.Author.Tests.{not-true}
 use borrow.Author.Needs.{needs}
 use Rattle.items.specs.Pour.{Pours}
 use Rattle.turns.specs.Turn.{pouredBy}

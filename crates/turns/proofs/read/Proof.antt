@@ -1,7 +1,4 @@
 use mathlib.Core.Path.{_≡_}
-use lib.IntN.{ℤ, pos, natAbs}
-use lib.Signed.{ltZ}
-use mathlib.Core.Bool.{false}
 use mir.Syntax.{w64}
 use mir.Val.{toZ, ofZ}
 use mir.ValLaws.{toZ-ofZ}

@@ -1,4 +1,4 @@
-use Rattle.wickanchor.specs.Handed.{closed-out}
+use Rattle.c_values.specs.Handed.{closed-out}
 use borrow.Author.Needs.{needs}
 use Rattle.wickanchor.proofs.wick_close.Statement.{statement}
 use Rattle.wickanchor.proofs.wick_close.Tie as tie

@@ -1,4 +1,4 @@
-use Rattle.wickanchor.specs.Handed.{fed-out}
+use Rattle.c_values.specs.Handed.{fed-out}
 use borrow.Author.Needs.{needs}
 use Rattle.wickanchor.proofs.wick_feed.Statement.{statement}
 use Rattle.wickanchor.proofs.wick_feed.Tie as tie

@@ -1,5 +1,3 @@
-use Rattle.filters.specs.Filters.{saidFilters}
-use Rattle.refusal.specs.Answer.{told}
 use borrow.Author.Needs.{needs}
 use Rattle.wickanchor.proofs.wick_filters.Statement.{statement}
 use Rattle.wickanchor.proofs.wick_filters.Tie as tie
@@ -7,18 +5,11 @@ use Rattle.wickanchor.proofs.wick_filters.Tie as tie
 read-requires : tie.Need-read-requires
 read-requires c κs = search needs
 
-enum-known-r : tie.Need-enum-known-r
-enum-known-r c = search needs
-
-enum-known-r-2 : tie.Need-enum-known-r-2
-enum-known-r-2 c = search needs
+filters-out-requires : tie.Need-filters-out-requires
+filters-out-requires c κs = search needs
 
 returns : tie.Need-returns
-returns c = rw (told saidFilters (c .before .before .before .read .result) (c .before .before .before .read .ensures) (c .before .r .given .1))
-
-returns-2 : tie.Need-returns-2
-returns-2 c = rw (told saidFilters (c .before .before .before .read .result) (c .before .before .before .read .ensures) (c .before .r2 .given .1))
+returns c = rw (c .filters-out .ensures, c .before .read .ensures)
 
 pub wick-filters-spec : {M : Type 1} → statement M
-wick-filters-spec =
-    tie.close (tie.spec read-requires enum-known-r enum-known-r-2 returns returns-2)
+wick-filters-spec = tie.close (tie.spec read-requires filters-out-requires returns)

@@ -1,10 +1,10 @@
-use Rattle.wickanchor.specs.Handed.{written-out}
+use Rattle.c_datagrams.specs.Written.{written-out}
 use borrow.Author.Needs.{needs}
 use Rattle.wickanchor.proofs.wick_relay_event.Statement.{statement}
 use Rattle.wickanchor.proofs.wick_relay_event.Tie as tie
 
-relay-requires : tie.Need-relay-requires
-relay-requires c κs = search needs
+event-requires : tie.Need-event-requires
+event-requires c κs = search needs
 
 wrote-out-requires : tie.Need-wrote-out-requires
 wrote-out-requires c κs = search needs
@@ -13,7 +13,7 @@ same-length : tie.Need-same-length
 same-length c = search needs
 
 returns : tie.Need-returns
-returns c = rw (c .wrote-out .ensures) (written-out (c .before .before .before .relay .result) (c .before .before .before .relay .ensures))
+returns c = rw (c .wrote-out .ensures) (written-out (c .before .before .before .event .result) (c .before .before .before .event .ensures))
 
 pub wick-relay-event-spec : {M : Type 1} → statement M
-wick-relay-event-spec = tie.close (tie.spec relay-requires wrote-out-requires same-length returns)
+wick-relay-event-spec = tie.close (tie.spec event-requires wrote-out-requires same-length returns)

@@ -1,10 +1,10 @@
-use Rattle.wickanchor.specs.Handed.{written-out}
+use Rattle.c_datagrams.specs.Written.{written-out}
 use borrow.Author.Needs.{needs}
 use Rattle.wickanchor.proofs.wick_write_basic.Statement.{statement}
 use Rattle.wickanchor.proofs.wick_write_basic.Tie as tie
 
-write-basic-requires : tie.Need-write-basic-requires
-write-basic-requires c κs = search needs
+basic-requires : tie.Need-basic-requires
+basic-requires c κs = search needs
 
 wrote-out-requires : tie.Need-wrote-out-requires
 wrote-out-requires c κs = search needs
@@ -13,8 +13,8 @@ same-length : tie.Need-same-length
 same-length c = search needs
 
 returns : tie.Need-returns
-returns c = rw (c .wrote-out .ensures) (written-out (c .before .before .before .write-basic .result) (c .before .before .before .write-basic .ensures))
+returns c = rw (c .wrote-out .ensures) (written-out (c .before .before .before .basic .result) (c .before .before .before .basic .ensures))
 
 pub wick-write-basic-spec : {M : Type 1} → statement M
 wick-write-basic-spec =
-    tie.close (tie.spec write-basic-requires wrote-out-requires same-length returns)
+    tie.close (tie.spec basic-requires wrote-out-requires same-length returns)

@@ -1,10 +1,13 @@
-use Rattle.wickanchor.specs.Handed.{written-out}
+use Rattle.c_datagrams.specs.Written.{written-out}
 use borrow.Author.Needs.{needs}
 use Rattle.wickanchor.proofs.wick_write_event.Statement.{statement}
 use Rattle.wickanchor.proofs.wick_write_event.Tie as tie
 
-write-requires : tie.Need-write-requires
-write-requires c κs = search needs
+mac-in-requires : tie.Need-mac-in-requires
+mac-in-requires c κs = search needs
+
+event-requires : tie.Need-event-requires
+event-requires c κs = search needs
 
 wrote-out-requires : tie.Need-wrote-out-requires
 wrote-out-requires c κs = search needs
@@ -13,7 +16,8 @@ same-length : tie.Need-same-length
 same-length c = search needs
 
 returns : tie.Need-returns
-returns c = rw (c .wrote-out .ensures) (written-out (c .before .before .before .write .result) (c .before .before .before .write .ensures))
+returns c = rw (c .wrote-out .ensures) (written-out (c .before .before .before .event .result) (rw (c .before .before .before .before .before .mac-in .ensures) at (c .before .before .before .event .ensures)))
 
 pub wick-write-event-spec : {M : Type 1} → statement M
-wick-write-event-spec = tie.close (tie.spec write-requires wrote-out-requires same-length returns)
+wick-write-event-spec =
+    tie.close (tie.spec mac-in-requires event-requires wrote-out-requires same-length returns)

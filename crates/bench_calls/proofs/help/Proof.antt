@@ -1,0 +1,25 @@
+use Rattle.bench_say.specs.Laws.{puts-next, puts-none}
+use borrow.Author.Needs.{needs}
+use Rattle.bench_calls.proofs.help.Statement.{statement}
+use Rattle.bench_calls.proofs.help.Tie as tie
+
+slice-aggregate-word : tie.Need-slice-aggregate-word
+slice-aggregate-word c = search needs
+
+word-requires : tie.Need-word-requires
+word-requires c κs = search needs
+
+slice-aggregate-word-2 : tie.Need-slice-aggregate-word-2
+slice-aggregate-word-2 c = search needs
+
+word-requires-2 : tie.Need-word-requires-2
+word-requires-2 c κs = search needs
+
+same-length : tie.Need-same-length
+same-length c = search needs
+
+returns : tie.Need-returns
+returns c = search (puts-next, puts-none, needs)
+
+pub help-spec : {M : Type 1} → statement M
+help-spec = tie.close (tie.spec slice-aggregate-word word-requires slice-aggregate-word-2 word-requires-2 same-length returns)

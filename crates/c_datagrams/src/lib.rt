@@ -1,0 +1,419 @@
+// Datagrams as programs in C have them: the structs that crate wickanchor hands over, laid out as C does, and what turns the answers of
+// crates request, reply, error, event and target into them, and addresses back. A refusal is its number by document 01, 0 stands for none,
+// and every other field of a refused call is 0. Each contract is an equation over what the answer says.
+ghost use mathlib.Core.Path.{_≡_};
+ghost use Rattle.refusal.specs.Answer.{full};
+ghost use Rattle.frame.specs.Written.{said as saidWrote};
+ghost use Rattle.target.specs.Target.{saidTarget};
+ghost use Rattle.meaning.specs.Meaning.{saidMeaning};
+ghost use Rattle.request.specs.Said.{saidRequest, said as saidReading};
+ghost use Rattle.error.specs.Error.{saidName};
+ghost use Rattle.reply.specs.Reading.{saidCode, said as saidReply};
+ghost use Rattle.event_type.specs.Types.{saidInstance};
+ghost use Rattle.event.specs.Reading.{saidEvent, said as saidTold};
+ghost use Rattle.c_datagrams.specs.Written.{wroteOut};
+ghost use Rattle.c_datagrams.specs.Requests.{aimOut, meansOut, meaningOut, requestOut, addressIn};
+ghost use Rattle.c_datagrams.specs.Replies.{replyOut, nameNo, codeOut};
+ghost use Rattle.c_datagrams.specs.Events.{instanceNo, instanceIs, eventOut, macIn};
+use error::Name;
+use event::Event;
+use event::Mac;
+use event_type::Instance;
+use frame::Wrote;
+use meaning::Meaning;
+use reply::Code;
+use request::Contents;
+use request::Ipv4;
+use request::Request;
+use target::Target;
+
+// How many bytes a writer wrote.
+#[repr(C)]
+pub struct WickWrote {
+    pub refusal: u8,
+    pub count: u64,
+}
+
+// What a target names: 1 gear and 2 a group, each by its number, 3 broadcast, 4 it is no target; 0 where no target is meant.
+#[repr(C)]
+pub struct WickAim {
+    pub kind: u8,
+    pub number: u8,
+}
+
+// What the arguments of a basic request mean: one of 14 kinds, and its numbers in the order in which crate meaning has them; 0 where it
+// has fewer. Kind 0 is no meaning, as for command 40.
+#[repr(C)]
+pub struct WickMeaning {
+    pub kind: u8,
+    pub aim: WickAim,
+    pub first: u8,
+    pub second: u8,
+    pub third: u8,
+    pub wide: u16,
+}
+
+// An IPv4 address, in the order in which it is written.
+#[repr(C)]
+pub struct WickAddress {
+    pub b0: u8,
+    pub b1: u8,
+    pub b2: u8,
+    pub b3: u8,
+}
+
+// A request: its four arguments and what they mean, or for command 40 its port and address.
+#[repr(C)]
+pub struct WickRequest {
+    pub refusal: u8,
+    pub sequence: u8,
+    pub command: u8,
+    pub a: u8,
+    pub b: u8,
+    pub c: u8,
+    pub d: u8,
+    pub address: WickAddress,
+    pub port: u16,
+    pub meaning: WickMeaning,
+}
+
+// A reply: its data are n bytes of the datagram, from data_at on.
+#[repr(C)]
+pub struct WickReply {
+    pub refusal: u8,
+    pub kind: u8,
+    pub sequence: u8,
+    pub data_at: u64,
+    pub n: u64,
+}
+
+// The error code of a reply, and the number of its name, 0 where it has none.
+#[repr(C)]
+pub struct WickCode {
+    pub refusal: u8,
+    pub has_code: u8,
+    pub code: u8,
+    pub name: u8,
+}
+
+// The MAC address of a controller, in the order in which it is written.
+#[repr(C)]
+pub struct WickMac {
+    pub b0: u8,
+    pub b1: u8,
+    pub b2: u8,
+    pub b3: u8,
+    pub b4: u8,
+    pub b5: u8,
+}
+
+// An event: its data are n bytes of the datagram, from data_at on.
+#[repr(C)]
+pub struct WickEvent {
+    pub refusal: u8,
+    pub kind: u8,
+    pub instance: u8,
+    pub has_instance: u8,
+    pub mac: WickMac,
+    pub target: u32,
+    pub data_at: u64,
+    pub n: u64,
+}
+
+// What a writer answers.
+pub fn wrote_out(w: Wrote) -> WickWrote
+    ensures { λ r. ⌜ r ≡ wroteOut (saidWrote w) ⌝ }
+{
+    match w {
+        Wrote::Count(n) => WickWrote {
+            refusal: 0,
+            count: n as u64,
+        },
+        Wrote::Refused(k) => WickWrote {
+            refusal: k,
+            count: 0,
+        },
+    }
+}
+
+// What a target names.
+pub fn aim_out(t: Target) -> WickAim
+    ensures { λ r. ⌜ r ≡ aimOut (saidTarget t) ⌝ }
+{
+    match t {
+        Target::Gear(n) => WickAim { kind: 1, number: n },
+        Target::Group(g) => WickAim {
+            kind: 2,
+            number: g.0,
+        },
+        Target::Broadcast => WickAim { kind: 3, number: 0 },
+        Target::Nothing => WickAim { kind: 4, number: 0 },
+    }
+}
+
+fn means(kind: u8, aim: WickAim, first: u8, second: u8, third: u8, wide: u16) -> WickMeaning
+    ensures { λ r. ⌜ r ≡ meansOut kind aim first second third wide ⌝ }
+{
+    WickMeaning {
+        kind,
+        aim,
+        first,
+        second,
+        third,
+        wide,
+    }
+}
+
+// No target.
+const NO_AIM: WickAim = WickAim { kind: 0, number: 0 };
+
+fn meaning_out(m: Meaning) -> WickMeaning
+    ensures { λ r. ⌜ r ≡ meaningOut (saidMeaning m) ⌝ }
+{
+    match m {
+        Meaning::Nothing => means(1, NO_AIM, 0, 0, 0, 0),
+        Meaning::Group(g) => means(2, NO_AIM, g.0, 0, 0, 0),
+        Meaning::Emit(a) => means(3, NO_AIM, a, 0, 0, 0),
+        Meaning::Timers { device, instance } => means(4, NO_AIM, device.0, instance, 0, 0),
+        Meaning::GroupScene { group, scene } => means(5, NO_AIM, group.0, scene, 0, 0),
+        Meaning::Channel { universe, channel } => means(6, NO_AIM, universe, 0, 0, channel),
+        Meaning::Filter {
+            address,
+            instance,
+            mask,
+        } => means(7, NO_AIM, address, instance, 0, mask),
+        Meaning::Query {
+            address,
+            start,
+            instance,
+        } => means(8, NO_AIM, address, start, instance, 0),
+        Meaning::Gear(a) => means(9, NO_AIM, a, 0, 0, 0),
+        Meaning::Inhibit { target, seconds } => means(10, aim_out(target), 0, 0, 0, seconds),
+        Meaning::Scene { target, scene } => means(11, aim_out(target), scene, 0, 0, 0),
+        Meaning::Level { target, level } => means(12, aim_out(target), level, 0, 0, 0),
+        Meaning::Lit(target) => means(13, aim_out(target), 0, 0, 0, 0),
+        Meaning::Target(target) => means(14, aim_out(target), 0, 0, 0, 0),
+    }
+}
+
+fn accepted_request(r: Request) -> WickRequest
+    ensures { λ w. ⌜ w ≡ requestOut (full (saidRequest r)) ⌝ }
+{
+    let contents = r.contents;
+    match contents {
+        Contents::Basic { arguments, meaning } => WickRequest {
+            refusal: 0,
+            sequence: r.sequence,
+            command: r.command,
+            a: arguments.a,
+            b: arguments.b,
+            c: arguments.c,
+            d: arguments.d,
+            address: WickAddress {
+                b0: 0,
+                b1: 0,
+                b2: 0,
+                b3: 0,
+            },
+            port: 0,
+            meaning: meaning_out(meaning),
+        },
+        Contents::Unicast { port, address } => WickRequest {
+            refusal: 0,
+            sequence: r.sequence,
+            command: r.command,
+            a: 0,
+            b: 0,
+            c: 0,
+            d: 0,
+            address: WickAddress {
+                b0: address.0,
+                b1: address.1,
+                b2: address.2,
+                b3: address.3,
+            },
+            port,
+            meaning: means(0, NO_AIM, 0, 0, 0, 0),
+        },
+    }
+}
+
+// What reading a request datagram answers.
+pub fn request_out(r: request::Reading) -> WickRequest
+    ensures { λ w. ⌜ w ≡ requestOut (saidReading r) ⌝ }
+{
+    match r {
+        request::Reading::Accepted(x) => accepted_request(x),
+        request::Reading::Refused(k) => WickRequest {
+            refusal: k,
+            sequence: 0,
+            command: 0,
+            a: 0,
+            b: 0,
+            c: 0,
+            d: 0,
+            address: WickAddress {
+                b0: 0,
+                b1: 0,
+                b2: 0,
+                b3: 0,
+            },
+            port: 0,
+            meaning: means(0, NO_AIM, 0, 0, 0, 0),
+        },
+    }
+}
+
+// The address of crate request.
+pub fn address_in(a: WickAddress) -> Ipv4
+    ensures { λ r. ⌜ r ≡ addressIn a ⌝ }
+{
+    Ipv4(a.b0, a.b1, a.b2, a.b3)
+}
+
+// "type, sequence, n, n data bytes, sum": where the data begin.
+const REPLY_DATA_AT: u64 = 3;
+
+// What reading a reply datagram answers.
+pub fn reply_out(r: reply::Reading) -> WickReply
+    ensures { λ w. ⌜ w ≡ replyOut (saidReply r) ⌝ }
+{
+    match r {
+        reply::Reading::Accepted(x) => WickReply {
+            refusal: 0,
+            kind: x.kind,
+            sequence: x.sequence,
+            data_at: REPLY_DATA_AT,
+            n: x.n as u64,
+        },
+        reply::Reading::Refused(k) => WickReply {
+            refusal: k,
+            kind: 0,
+            sequence: 0,
+            data_at: 0,
+            n: 0,
+        },
+    }
+}
+
+// The error code of a reply.
+pub fn code_out(c: Code) -> WickCode
+    ensures { λ w. ⌜ w ≡ codeOut (saidCode c) ⌝ }
+{
+    match c {
+        Code::Named { code, name } => WickCode {
+            refusal: 0,
+            has_code: 1,
+            code,
+            name,
+        },
+        Code::Number(code) => WickCode {
+            refusal: 0,
+            has_code: 1,
+            code,
+            name: 0,
+        },
+        Code::Absent => WickCode {
+            refusal: 0,
+            has_code: 0,
+            code: 0,
+            name: 0,
+        },
+        Code::Refused(k) => WickCode {
+            refusal: k,
+            has_code: 0,
+            code: 0,
+            name: 0,
+        },
+    }
+}
+
+// The number of an error code's name, 0 where it has none.
+pub fn name_out(n: Name) -> u8
+    ensures { λ r. ⌜ r ≡ nameNo (saidName n) ⌝ }
+{
+    match n {
+        Name::Number(k) => k,
+        Name::Nothing => 0,
+    }
+}
+
+// An instance as a number, 0 where there is none; and whether there is one.
+fn instance_no(i: Instance) -> u8
+    ensures { λ r. ⌜ r ≡ instanceNo (saidInstance i) ⌝ }
+{
+    match i {
+        Instance::Number(n) => n,
+        Instance::Absent => 0,
+    }
+}
+
+fn instance_is(i: Instance) -> u8
+    ensures { λ r. ⌜ r ≡ instanceIs (saidInstance i) ⌝ }
+{
+    match i {
+        Instance::Number(_) => 1,
+        Instance::Absent => 0,
+    }
+}
+
+// "5A 43, six MAC bytes, three target bytes, event type, n, n data bytes, sum": where the data begin.
+const EVENT_DATA_AT: u64 = 13;
+
+fn accepted_event(e: Event) -> WickEvent
+    ensures { λ w. ⌜ w ≡ eventOut (full (saidEvent e)) ⌝ }
+{
+    let m = e.mac;
+    let t = e.kind;
+    let i = e.instance;
+    WickEvent {
+        refusal: 0,
+        kind: t.number(),
+        instance: instance_no(i),
+        has_instance: instance_is(i),
+        mac: WickMac {
+            b0: m.0,
+            b1: m.1,
+            b2: m.2,
+            b3: m.3,
+            b4: m.4,
+            b5: m.5,
+        },
+        target: e.target,
+        data_at: EVENT_DATA_AT,
+        n: e.n as u64,
+    }
+}
+
+// What reading an event datagram answers.
+pub fn event_out(r: event::Reading) -> WickEvent
+    ensures { λ w. ⌜ w ≡ eventOut (saidTold r) ⌝ }
+{
+    match r {
+        event::Reading::Accepted(x) => accepted_event(x),
+        event::Reading::Refused(k) => WickEvent {
+            refusal: k,
+            kind: 0,
+            instance: 0,
+            has_instance: 0,
+            mac: WickMac {
+                b0: 0,
+                b1: 0,
+                b2: 0,
+                b3: 0,
+                b4: 0,
+                b5: 0,
+            },
+            target: 0,
+            data_at: 0,
+            n: 0,
+        },
+    }
+}
+
+// The MAC address of crate event.
+pub fn mac_in(m: WickMac) -> Mac
+    ensures { λ r. ⌜ r ≡ macIn m ⌝ }
+{
+    Mac(m.b0, m.b1, m.b2, m.b3, m.b4, m.b5)
+}

@@ -1,0 +1,71 @@
+// Datagrams handed on: each function reads a datagram of its family and writes what was read into a lent buffer. An accepted one comes back
+// byte for byte, or 8 where the buffer is too short; else the answer is the reader's refusal. It leans on crates request, reply and
+// event. Demand 2: "writing a frame that was read gives its bytes back, where the buffer is long enough."
+ghost use Rattle.frame.specs.Written.{Written};
+ghost use Rattle.frame.specs.Relay.{relayed};
+ghost use Rattle.request.specs.Said.{fieldsOf, saidRequest};
+ghost use Rattle.request.specs.Reading.{readRequest};
+ghost use Rattle.request.specs.Writing.{writerOf};
+ghost use Rattle.reply.specs.Reading.{readReply};
+ghost use Rattle.event.specs.Reading.{readEvent};
+use frame::Wrote;
+use request::Contents;
+use request::Request;
+
+// Writes a request that was read.
+fn request_again(r: Request, out: &mut [u8]) -> Wrote
+    ensures { λ w. ⌜ Written (writerOf (fieldsOf (saidRequest r))) (now (out .entry)) w (now (out .exit)) ⌝ }
+{
+    let contents = r.contents;
+    match contents {
+        Contents::Basic {
+            arguments,
+            meaning: _,
+        } => writers::basic(r.sequence, r.command, arguments, out),
+        Contents::Unicast { port, address } => writers::unicast(r.sequence, port, address, out),
+    }
+}
+
+pub fn request(s: &[u8], out: &mut [u8]) -> Wrote
+    ensures { λ r. ⌜ Written (relayed (readRequest (now (s .entry))) (now (s .entry))) (now (out .entry)) r (now (out .exit)) ⌝ }
+{
+    let reading = request::read(s);
+    match reading {
+        request::Reading::Refused(k) => Wrote::Refused(k),
+        request::Reading::Accepted(r) => request_again(r, out),
+    }
+}
+
+pub fn reply(s: &[u8], out: &mut [u8]) -> Wrote
+    ensures { λ r. ⌜ Written (relayed (readReply (now (s .entry))) (now (s .entry))) (now (out .entry)) r (now (out .exit)) ⌝ }
+{
+    let r = reply::read(s);
+    match r {
+        reply::Reading::Accepted(reply) => {
+            let end = reply.n + reply::DATA_AT;
+            writers::reply(reply.kind, reply.sequence, &s[reply::DATA_AT..end], out)
+        }
+        reply::Reading::Refused(k) => Wrote::Refused(k),
+    }
+}
+
+pub fn event(s: &[u8], out: &mut [u8]) -> Wrote
+    ensures { λ r. ⌜ Written (relayed (readEvent 3 (now (s .entry))) (now (s .entry))) (now (out .entry)) r (now (out .exit)) ⌝ }
+{
+    let r = event::read(s);
+    match r {
+        event::Reading::Accepted(event) => {
+            let mac = event.mac;
+            let kind = event.kind;
+            let end = event.n + event::DATA_AT;
+            writers::event(
+                mac,
+                event.target,
+                kind.number(),
+                &s[event::DATA_AT..end],
+                out,
+            )
+        }
+        event::Reading::Refused(k) => Wrote::Refused(k),
+    }
+}

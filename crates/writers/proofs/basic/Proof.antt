@@ -1,0 +1,68 @@
+use borrow.Author.Needs.{needs}
+use borrow.Author.Tests.{not-true, not-false}
+use Rattle.command.specs.Known.{shape-told}
+use Rattle.frame.specs.Written.{refuses, passes}
+use Rattle.writers.proofs.basic.Statement.{statement}
+use Rattle.writers.proofs.basic.Tie as tie
+
+shape-of-requires : tie.Need-shape-of-requires
+shape-of-requires c κs = search needs
+
+enum-known-shape : tie.Need-enum-known-shape
+enum-known-shape c = search needs
+
+fits-requires : tie.Need-fits-requires
+fits-requires c κs = search needs
+
+returns : tie.Need-returns
+returns c =
+    refuses (c .before .before .before .before .before .before .before .args .out .now)
+    (rw (← shape-told (c .before .before .before .before .before .shape-of .result) _ (c .before .before .before .before .before .shape-of .ensures), c .before .before .before .shape .given .1, ← c .before .fits2 .ensures, not-true (c .before .fits2 .result) (c .if1 .taken)))
+
+slice-aggregate-write : tie.Need-slice-aggregate-write
+slice-aggregate-write c = search needs
+
+slice-aggregate-write-2 : tie.Need-slice-aggregate-write-2
+slice-aggregate-write-2 c = search needs
+
+write-requires : tie.Need-write-requires
+write-requires c κs = search needs
+
+enum-told : tie.Need-enum-told
+enum-told c = search needs
+
+enum-told-2 : tie.Need-enum-told-2
+enum-told-2 c = search needs
+
+same-length : tie.Need-same-length
+same-length c = search needs
+
+returns-2 : tie.Need-returns-2
+returns-2 c =
+    passes
+    (rw (← shape-told (c .before .before .before .before .before .before .before .before .before .before .before .shape-of .result) _ (c .before .before .before .before .before .before .before .before .before .before .before .shape-of .ensures), c .before .before .before .before .before .before .before .before .before .shape .given .1, ← c .before .before .before .before .before .before .before .fits2 .ensures, not-false (c .before .before .before .before .before .before .before .fits2 .result) (c .before .before .before .before .before .before .if1 .left)))
+    (c .before .before .write .ensures)
+
+returns-3 : tie.Need-returns-3
+returns-3 c = refuses (c .before .before .before .before .args .out .now) (rw (← shape-told (c .before .before .shape-of .result) _ (c .before .before .shape-of .ensures), c .enum-told .given .1))
+
+returns-4 : tie.Need-returns-4
+returns-4 c = refuses (c .before .before .before .before .args .out .now) (rw (← shape-told (c .before .before .shape-of .result) _ (c .before .before .shape-of .ensures), c .enum-told2 .given .1))
+
+pub basic-spec : {M : Type 1} → statement M
+basic-spec =
+    tie.close
+    (tie.spec
+    shape-of-requires
+    enum-known-shape
+    fits-requires
+    returns
+    slice-aggregate-write
+    slice-aggregate-write-2
+    write-requires
+    enum-told
+    enum-told-2
+    same-length
+    returns-2
+    returns-3
+    returns-4)

@@ -1,0 +1,111 @@
+// Datagrams written into a lent buffer: basic requests, request 40, replies and events, each by the layout of its family (crates request,
+// reply and event have the definitions). It leans on lead for the leads and the most data, on command and ranges for what a basic request may say, and
+// on frame for the last step of writing.
+// Document 01, "Frames" and "Requests and their argument ranges".
+ghost use Rattle.frame.specs.Written.{Written};
+ghost use Rattle.request.specs.Writing.{basicFrame, unicastFrame};
+ghost use Rattle.reply.specs.Writing.{replyFrame};
+ghost use Rattle.event.specs.Writing.{eventFrame};
+use command::Shape;
+use event::Mac;
+use frame::Wrote;
+use meaning::Arguments;
+use request::Ipv4;
+
+// Writes a basic request: 3 where the command is unknown or 40, 7 where an argument is outside the table, 8 where the
+// buffer is too short.
+pub fn basic(sequence: u8, command: u8, arguments: Arguments, out: &mut [u8]) -> Wrote
+    ensures { λ r. ⌜ Written (basicFrame sequence command arguments) (now (out .entry)) r (now (out .exit)) ⌝ }
+{
+    let shape = command::shape_of(command);
+    match shape {
+        Shape::Basic(rule) => {
+            let a = arguments.a;
+            let b = arguments.b;
+            let c = arguments.c;
+            let d = arguments.d;
+            if !ranges::fits(rule, a, b, c, d) {
+                return Wrote::Refused(7);
+            }
+            let head = [lead::REQUEST, sequence, command, a, b, c, d];
+            frame::write(&head, b"", out)
+        }
+        Shape::Unknown => Wrote::Refused(3),
+        Shape::Unicast => Wrote::Refused(3),
+    }
+}
+
+// Writes request 40, for any port and address: 8 where the buffer is too short.
+pub fn unicast(sequence: u8, port: u16, address: Ipv4, out: &mut [u8]) -> Wrote
+    ensures { λ r. ⌜ Written (unicastFrame sequence port address) (now (out .entry)) r (now (out .exit)) ⌝ }
+{
+    let high = (port / 256 % 256) as u8;
+    let low = (port % 256) as u8;
+    let head = [
+        lead::REQUEST,
+        sequence,
+        command::UNICAST_COMMAND,
+        command::UNICAST_LENGTH,
+        high,
+        low,
+        address.0,
+        address.1,
+        address.2,
+        address.3,
+    ];
+    frame::write(&head, b"", out)
+}
+
+// Writes a reply: 2 where the type is none, 4 where there are more than 64 data bytes, 8 where the buffer is too short.
+pub fn reply(kind: u8, sequence: u8, data: &[u8], out: &mut [u8]) -> Wrote
+    ensures { λ r. ⌜ Written (replyFrame kind sequence (now («data» .entry))) (now (out .entry)) r (now (out .exit)) ⌝ }
+{
+    if !lead::is_reply(kind) {
+        return Wrote::Refused(2);
+    }
+    let n = data.len();
+    if lead::REPLY_DATA < n {
+        return Wrote::Refused(4);
+    }
+    let head = [kind, sequence, n as u8];
+    frame::write(&head, data, out)
+}
+
+// The largest target that three bytes hold.
+const TARGET_MOST: u32 = 0xFFFFFF;
+
+// Writes an event: 4 where there are more than 48 data bytes, 7 where the target is too large for its three bytes or an
+// instance event has no data, 8 where the buffer is too short.
+pub fn event(mac: Mac, target: u32, kind: u8, data: &[u8], out: &mut [u8]) -> Wrote
+    ensures { λ r. ⌜ Written (eventFrame 3 mac target kind (now («data» .entry))) (now (out .entry)) r (now (out .exit)) ⌝ }
+{
+    let n = data.len();
+    if lead::EVENT_DATA < n {
+        return Wrote::Refused(4);
+    }
+    if TARGET_MOST < target {
+        return Wrote::Refused(7);
+    }
+    if event_type::has_instance(kind) & (n == 0) {
+        return Wrote::Refused(7);
+    }
+    let high = (target / 256 / 256 % 256) as u8;
+    let middle = (target / 256 % 256) as u8;
+    let low = (target % 256) as u8;
+    let head = [
+        lead::EVENT[0],
+        lead::EVENT[1],
+        mac.0,
+        mac.1,
+        mac.2,
+        mac.3,
+        mac.4,
+        mac.5,
+        high,
+        middle,
+        low,
+        kind,
+        n as u8,
+    ];
+    frame::write(&head, data, out)
+}
