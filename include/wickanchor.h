@@ -14,8 +14,9 @@
 
 #include <stdint.h>
 
-/* Grows with each change of what is declared here. 2: wick_name; names as text were a header of their own. */
-#define WICKANCHOR_VERSION 2
+/* Grows with each change of what is declared here, or of what the functions answer. 2: wick_name; names as text were a header of their own.
+   3: command A1 takes scenes 13 to 15 (W-201). */
+#define WICKANCHOR_VERSION 3
 
 #ifdef __cplusplus
 extern "C" {
@@ -39,6 +40,10 @@ extern "C" {
 #define WICK_EVENT_TARGET_MOST 0xFFFFFF
 #define WICK_FILTERS_MOST 15
 #define WICK_NAME_MOST 33
+
+/* The last scene of WICK_DALI_SCENE, which takes all that DALI has, and of WICK_QUERY_SCENE_LABEL_FOR_GROUP */
+#define WICK_DALI_SCENE_MOST 15
+#define WICK_LABELLED_SCENE_MOST 12
 
 /* The most bytes that a reader of a line holds */
 #define WICK_REQUEST_LINE_HELD 10
@@ -155,13 +160,13 @@ enum wick_meaning_kind {
     WICK_MEANS_GROUP = 2,           /* first: the group's number */
     WICK_MEANS_EMIT = 3,            /* first: the mode's bits */
     WICK_MEANS_TIMERS = 4,          /* first: control device address, second: instance */
-    WICK_MEANS_GROUP_SCENE = 5,     /* first: the group's number, second: scene */
+    WICK_MEANS_GROUP_SCENE = 5,     /* first: the group's number, second: scene, 0 to 12 */
     WICK_MEANS_CHANNEL = 6,         /* first: universe, wide: channel */
     WICK_MEANS_FILTER = 7,          /* first: address, second: instance, wide: mask */
     WICK_MEANS_QUERY = 8,           /* first: address, second: start, third: instance */
     WICK_MEANS_GEAR = 9,            /* first: the gear's address */
     WICK_MEANS_INHIBIT = 10,        /* aim, wide: seconds */
-    WICK_MEANS_SCENE = 11,          /* aim, first: scene */
+    WICK_MEANS_SCENE = 11,          /* aim, first: scene, 0 to 15 */
     WICK_MEANS_LEVEL = 12,          /* aim, first: level */
     WICK_MEANS_LIT = 13,            /* aim: what is lit */
     WICK_MEANS_TARGET = 14          /* aim: what is asked about */

@@ -237,7 +237,7 @@ SHORT_FRAMES = [
     ("request", basic(0x00, 0x01, [10, 0, 0, 0])),
     ("request", basic(0x7F, 0x1D, [0, 0, 0, 0])),
     ("request", basic(0x80, 0x31, [0x40, 0x1F, 0x01, 0x08])),
-    ("request", basic(0xFF, 0xA1, [255, 0, 0, 12])),
+    ("request", basic(0xFF, 0xA1, [255, 0, 0, 15])),
     ("request", unicast(0x05, bytes([0x22, 0x6B, 0xC0, 0xA8, 0x0A, 0x0A]))),
     ("reply", reply(0xA0, 0x00, b"")),
     ("reply", reply(0xA3, 0x11, bytes([0xB1]))),
@@ -767,6 +767,50 @@ def names():
     yield "help"
 
 
+# W-201: the scenes of A1 and those of 1B
+
+def scene_call(target, scene):
+    return [0xA1, target, 0, 0, scene]
+
+
+def scene_label(group, scene):
+    return [0x1B, group, scene, 0, 0]
+
+
+def scene_frames():
+    """Command and arguments of requests: scenes about both ends, targets and groups in and outside their ranges."""
+    for scene in range(11, 18):
+        for target in [0, 63, 64, 79, 80, 81, 126, 127, 128, 254, 255]:
+            yield scene_call(target, scene)
+        for group in [0, 15, 16, 64]:
+            yield scene_label(group, scene)
+
+
+def scenes():
+    """Every scene by its range; about the ends as datagrams, in writing, relayed and on the line, in any two parts."""
+    for scene in range(256):
+        for target in [0, 79, 127]:
+            yield call("fits", scene_call(target, scene))
+        yield call("fits", scene_label(15, scene))
+    for words in scene_frames():
+        frame = basic(0, words[0], words[1:])
+        spoilt = replaced(frame, 7, frame[7] ^ 0x0F)
+        for datagram in [frame, spoilt, frame[:7], frame + b"\x00"]:
+            yield call("request", datagram)
+            yield call("settle_request", datagram)
+            yield call("item_request", [1], datagram)
+        for size in [7, 8, 9]:
+            yield call("write_basic", [0] + words, pattern(size))
+            yield call("relay_request", frame, pattern(size))
+    for made, first in [(scene_call, 255), (scene_label, 15)]:
+        requests = [made(first, scene) for scene in range(12, 17)]
+        stream = b"".join(basic(sequence, words[0], words[1:]) for sequence, words in enumerate(requests))
+        for place in range(len(stream) + 1):
+            yield from fed_and_closed("request", [stream[:place], stream[place:]])
+    for words in [scene_call(79, 15), scene_call(79, 16), scene_label(15, 12), scene_label(15, 13)]:
+        yield from held_calls("request", 10, basic(7, words[0], words[1:]) + bytes([0x04, 0x00]), [b""])
+
+
 # Lines that are no call
 
 def filled(line, size):
@@ -850,6 +894,7 @@ KINDS = [
     ("items at a position", items_at),
     ("relays", relays),
     ("names", names),
+    ("scenes of A1 and 1B (W-201)", scenes),
     ("lines that are no call", no_calls),
 ]
 

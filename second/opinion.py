@@ -1,4 +1,4 @@
-"""TPI Advanced as document 01 has it, and the answers to the calls of docs/BENCH.md.
+"""TPI Advanced as documents 01 and 02 have it, and the answers to the calls of docs/BENCH.md.
 
     python3 second/opinion.py < calls > answers
 
@@ -137,7 +137,8 @@ ZERO = span(0, 0)  # "every argument place not named is 0"
 ANY = span(0, 255)
 ALL_INSTANCES = frozenset([255])
 INSTANCE = span(0, 31)
-SCENE = span(0, 12)
+LABELLED_SCENE = span(0, 12)  # of 1B
+DALI_SCENE = span(0, 15)  # of A1; W-201: "A1 takes D 0-15; 1B keeps 0-12"
 START = span(0, 63)
 EMIT = frozenset(bits for bits in range(256) if bits & 0xC3 == bits)  # "no bits outside C3"
 ALL_ADDRESSES = frozenset([255])
@@ -151,7 +152,7 @@ RULES = {
     "emit": Rule([(EMIT, ZERO, ZERO, ZERO)], lambda a, b, c, d: ["emit", a]),
     "bare": Rule([(ZERO, ZERO, ZERO, ZERO)], lambda a, b, c, d: ["nothing"]),
     "timers": Rule([(DEVICE, ZERO, ZERO, INSTANCE)], lambda a, b, c, d: ["device", a, "instance", d]),
-    "group_scene": Rule([(GROUP, SCENE, ZERO, ZERO)], lambda a, b, c, d: ["group", a, "scene", b]),
+    "group_scene": Rule([(GROUP, LABELLED_SCENE, ZERO, ZERO)], lambda a, b, c, d: ["group", a, "scene", b]),
     "channel": Rule([(ZERO, ANY, ANY, ANY)],
                     lambda a, b, c, d: ["universe", b, "channel", high_first([c, d])]),
     "filter": Rule([(GEAR, ALL_INSTANCES, ANY, ANY), (DEVICE, INSTANCE, ANY, ANY)],
@@ -161,7 +162,7 @@ RULES = {
     "gear": Rule([(GEAR, ZERO, ZERO, ZERO)], lambda a, b, c, d: ["gear", a]),
     "inhibit": Rule([(LIGHTING_TARGET, ZERO, ANY, ANY)],
                     lambda a, b, c, d: lights(a) + ["seconds", high_first([c, d])]),
-    "scene": Rule([(LIGHTING_TARGET, ZERO, ZERO, SCENE)], lambda a, b, c, d: lights(a) + ["scene", d]),
+    "scene": Rule([(LIGHTING_TARGET, ZERO, ZERO, DALI_SCENE)], lambda a, b, c, d: lights(a) + ["scene", d]),
     "level": Rule([(LIGHTING_TARGET, ZERO, ZERO, ANY)], lambda a, b, c, d: lights(a) + ["level", d]),
     "lights": Rule([(LIGHTING_TARGET, ZERO, ZERO, ZERO)], lambda a, b, c, d: lights(a)),
     "address": Rule([(GEAR_OR_GROUP, ZERO, ZERO, ZERO)], lambda a, b, c, d: lights(a)),

@@ -41,6 +41,24 @@ STATED = [
     ("feed_reply 00 A0 FF", "0 taken 2 item 0 count 4 bytes A0 00 00 A0"),
 ]
 
+# Document 02: what its requests state.
+STATED_LATER = [
+    # W-201: "A1 takes D 0-15; 1B keeps 0-12"
+    ("request 04 00 A1 FF 00 00 0C 56", "0 sequence 0 command A1 arguments FF 00 00 0C broadcast scene 12"),
+    ("request 04 00 A1 FF 00 00 0D 57", "0 sequence 0 command A1 arguments FF 00 00 0D broadcast scene 13"),
+    ("request 04 00 A1 FF 00 00 0F 55", "0 sequence 0 command A1 arguments FF 00 00 0F broadcast scene 15"),
+    ("request 04 00 A1 FF 00 00 10 4A", "7"),
+    ("request 04 00 1B 02 0C 00 00 11", "0 sequence 0 command 1B arguments 02 0C 00 00 group 2 scene 12"),
+    ("request 04 00 1B 02 0D 00 00 10", "7"),
+    ("write_basic 00 A1 4F 00 00 0F / FF FF FF FF FF FF FF FF",
+     "0 count 8 before FF FF FF FF FF FF FF FF after 04 00 A1 4F 00 00 0F E5"),
+    ("write_basic 00 A1 4F 00 00 10 /", "7 before after"),
+    ("write_basic 00 1B 0F 0D 00 00 / FF", "7 before FF after FF"),
+    ("feed_request 04 00 A1 FF 00 00 0F 55", "0 taken 8 item 0 count 8 bytes 04 00 A1 FF 00 00 0F 55"),
+    ("feed_request 04 00 A1 FF 00 00 10 4A", "0 taken 8 item 7 count 8 bytes 04 00 A1 FF 00 00 10 4A"),
+    ("feed_request 04 00 1B 02 0D 00 00 10", "0 taken 8 item 7 count 8 bytes 04 00 1B 02 0D 00 00 10"),
+]
+
 SMALL_PROGRAM_OUTPUT = """\
 0 4 A00000A0
 2 1 FF
@@ -76,7 +94,7 @@ class SelfTest(unittest.TestCase):
 
     def test_stated_answers(self):
         bench = opinion.Bench()
-        for call, answer in STATED:
+        for call, answer in STATED + STATED_LATER:
             self.assertEqual(bench.answer(call.encode("ascii")), answer, call)
 
     def test_longest_datagrams(self):

@@ -14,7 +14,7 @@ use Rattle.request.specs.Reading.{readBasic, readUnicast, readRequest}
 use Rattle.reply.specs.declared.Reply.{Reply}
 use Rattle.reply.specs.Reading.{readReply, dataOf}
 use Rattle.stream.specs.Stream.{Item, reading, itemsUpTo, items}
-use Rattle.line.specs.declared.Line.the-variants.{Reply as OnReply}
+use Rattle.line.specs.declared.Line.the-variants.{Request as OnRequest, Reply as OnReply}
 use Rattle.line.specs.Rule.{settle}
 use Rattle.text.specs.Text.{decimalIn}
 use Rattle.printed.specs.Text.{hexes, textOf}
@@ -32,6 +32,7 @@ pub data Case : Type 0 where
   gear-present : ℕ → ℕ → Case
   lowest-gear : ℕ → Answer ℕ → Case
   scenes : List ℕ → Answer ℕ → Case
+  request-line : List ℕ → List Item → Case
   reply-line : List ℕ → List Item → Case
   printed-text : List ℕ → List ℕ → Case
 
@@ -46,6 +47,7 @@ Holds (gear s a) = gearOf s ≡ a
 Holds (gear-present g n) = countOf 64 g ≡ n
 Holds (lowest-gear g a) = lowestOf 64 g ≡ a
 Holds (scenes s a) = scenesOf s ≡ a
+Holds (request-line s is) = items (settle OnRequest) s ≡ is
 Holds (reply-line s is) = items (settle OnReply) s ≡ is
 Holds (printed-text s t) = textOf (items (settle OnReply) s) ≡ t
 

@@ -1,4 +1,5 @@
--- Document 01, "Requests and their argument ranges": the table of ranges, one line for each rule, over the argument places A, B, C, D.
+-- Document 01, "Requests and their argument ranges", as document 02 mends it (W-201): the table of ranges, one line for each rule, over the
+-- argument places A, B, C, D.
 use Prim.Native.Nat.{ℕ}
 use mathlib.Core.Bool.{Bool, _&&_, _||_}
 use lib.Bits.{bitOr}
@@ -11,18 +12,25 @@ use Rattle.command.specs.declared.Rule.the-variants.{Group, Emit, Bare, Timers,
 abbrev pub unnamed : ℕ → Bool
 unnamed x = eqb x 0
 
--- "scene 0–12", "instance 0–31", "B start 0–63"
-abbrev pub lastScene : ℕ
-lastScene = 12
+-- W-201: "A1 takes D 0–15; 1B keeps 0–12". DALI has sixteen scenes; the source lets those up to 12 have a label.
+abbrev pub lastDaliScene : ℕ
+lastDaliScene = 15
 
+abbrev pub lastLabelledScene : ℕ
+lastLabelledScene = 12
+
+-- "instance 0–31", "B start 0–63"
 abbrev pub lastInstance : ℕ
 lastInstance = 31
 
 abbrev pub lastStart : ℕ
 lastStart = 63
 
-abbrev pub isScene : ℕ → Bool
-isScene x = leb x lastScene
+abbrev pub isDaliScene : ℕ → Bool
+isDaliScene x = leb x lastDaliScene
+
+abbrev pub isLabelledScene : ℕ → Bool
+isLabelledScene x = leb x lastLabelledScene
 
 abbrev pub isInstance : ℕ → Bool
 isInstance x = leb x lastInstance
@@ -52,13 +60,13 @@ fits Group a b c d = isGroup a && unnamed b && unnamed c && unnamed d
 fits Emit a b c d = isEmit a && unnamed b && unnamed c && unnamed d
 fits Bare a b c d = unnamed a && unnamed b && unnamed c && unnamed d
 fits Timers a b c d = isDevice a && unnamed b && unnamed c && isInstance d
-fits GroupScene a b c d = isGroup a && isScene b && unnamed c && unnamed d
+fits GroupScene a b c d = isGroup a && isLabelledScene b && unnamed c && unnamed d
 fits Channel a b c d = unnamed a
 fits Filter a b c d = isFiltered a b
 fits Query a b c d = leb b lastStart && unnamed c && isQueried a d
 fits Gear a b c d = isGear a && unnamed b && unnamed c && unnamed d
 fits Inhibit a b c d = isLighting a && unnamed b
-fits Scene a b c d = isLighting a && unnamed b && unnamed c && isScene d
+fits Scene a b c d = isLighting a && unnamed b && unnamed c && isDaliScene d
 fits Level a b c d = isLighting a && unnamed b && unnamed c
 fits Lights a b c d = isLighting a && unnamed b && unnamed c && unnamed d
 fits Address a b c d = isGearOrGroup a && unnamed b && unnamed c && unnamed d
