@@ -134,6 +134,7 @@ static void relay(struct wick_wrote (*f)(const uint8_t *, uint64_t, uint8_t *, u
 static void relay_request(void) { relay(wick_relay_request); }
 static void relay_reply(void) { relay(wick_relay_reply); }
 static void relay_event(void) { relay(wick_relay_event); }
+static void relay_event_two(void) { relay(wick_relay_event_two); }
 
 static void reply(void) {
     struct wick_reply r = wick_reply(g[0].bytes, g[0].n);
@@ -170,8 +171,7 @@ static void write_reply(void) {
     wrote(wick_write_reply(g[0].bytes[0], g[0].bytes[1], g[1].bytes, g[1].n, out, g[2].n), g[2], out);
 }
 
-static void event(void) {
-    struct wick_event e = wick_event(g[0].bytes, g[0].n);
+static void told(struct wick_event e) {
     printf("%u", e.refusal);
     if (e.refusal) {
         if (e.kind || e.instance || e.has_instance || e.mac.bytes[0] || e.target || e.data_at || e.n) printf(" NOT 0");
@@ -188,18 +188,25 @@ static void event(void) {
     else printf(" instance absent");
 }
 
-static void event_data(void) {
-    struct wick_event e = wick_event(g[0].bytes, g[0].n);
+static void part(struct wick_event e) {
     printf("0 data");
     if (e.n) hex(g[0].bytes + e.data_at, e.n);
 }
 
-static void write_event(void) {
+static void event(void) { told(wick_event(g[0].bytes, g[0].n)); }
+static void event_two(void) { told(wick_event_two(g[0].bytes, g[0].n)); }
+static void event_data(void) { part(wick_event(g[0].bytes, g[0].n)); }
+static void event_two_data(void) { part(wick_event_two(g[0].bytes, g[0].n)); }
+
+static void event_by(struct wick_wrote (*f)(struct wick_mac, uint32_t, uint8_t, const uint8_t *, uint64_t, uint8_t *, uint64_t)) {
     struct wick_mac mac;
     memcpy(mac.bytes, g[0].bytes, 6);
     uint8_t *out = lent(g[2]);
-    wrote(wick_write_event(mac, (uint32_t)high_first(g[0].bytes + 6, 4), g[0].bytes[10], g[1].bytes, g[1].n, out, g[2].n), g[2], out);
+    wrote(f(mac, (uint32_t)high_first(g[0].bytes + 6, 4), g[0].bytes[10], g[1].bytes, g[1].n, out, g[2].n), g[2], out);
 }
+
+static void write_event(void) { event_by(wick_write_event); }
+static void write_event_two(void) { event_by(wick_write_event_two); }
 
 static void sum(void) { printf("0 sum %02X", wick_sum(g[0].bytes, g[0].n)); }
 static void known(void) { printf(wick_known(g[0].bytes[0]) ? "0 known" : "0 unknown"); }
@@ -381,8 +388,9 @@ static const struct {
     const char *name;
     void (*call)(void);
 } calls[] = {
-    CALL(request), CALL(write_basic), CALL(write_unicast), CALL(relay_request), CALL(relay_reply), CALL(relay_event),
+    CALL(request), CALL(write_basic), CALL(write_unicast), CALL(relay_request), CALL(relay_reply), CALL(relay_event), CALL(relay_event_two),
     CALL(reply), CALL(reply_data), CALL(error_code), CALL(write_reply), CALL(event), CALL(event_data), CALL(write_event),
+    CALL(event_two), CALL(event_two_data), CALL(write_event_two),
     CALL(sum), CALL(known), CALL(error_name), CALL(event_type), CALL(group_target), CALL(device), CALL(device_number), CALL(name),
     CALL(lights), CALL(status), CALL(mask), CALL(scenes), CALL(gear), CALL(types), CALL(count_types), CALL(count_gear),
     CALL(lowest_type), CALL(lowest_gear), CALL(filters), CALL(filter), CALL(book_fresh), CALL(book_set), CALL(book_show), CALL(ask), CALL(answer),

@@ -1,4 +1,5 @@
-// The header in C++: it compiles, its functions link, and the scenes that it names are the last that requests take.
+// The header in C++: it compiles, its functions link, the scenes that it names are the last that requests take, and the sizes and targets
+// that it names for each layout of events are the ends of theirs.
 #include "wickanchor.h"
 
 // What writing a request with these arguments is refused with.
@@ -14,11 +15,38 @@ static bool scenes() {
         && refused(WICK_QUERY_SCENE_LABEL_FOR_GROUP, 0, WICK_LABELLED_SCENE_MOST + 1, 0) == WICK_BAD_ARGUMENT;
 }
 
+// An event without data is as long as the least that the header names, one of all its data as long as the most and with its data where
+// the header says; the header's last target is written and comes back, the next is refused.
+struct layout {
+    struct wick_event (*read)(const uint8_t *, uint64_t);
+    struct wick_wrote (*write)(struct wick_mac, uint32_t, uint8_t, const uint8_t *, uint64_t, uint8_t *, uint64_t);
+    uint64_t least, most, data_at;
+    uint32_t target;
+};
+
+static bool events(const layout &l) {
+    const struct wick_mac mac = {{0x7C, 0xBA, 0xCC, 0x2F, 0x40, 0x2E}};
+    const uint8_t data[WICK_EVENT_DATA_MOST] = {};
+    uint8_t out[WICK_EVENT_MOST];
+    const bool least = l.write(mac, l.target, WICK_LEVEL_CHANGE, data, 0, out, sizeof out).count == l.least
+        && l.read(out, l.least).refusal == WICK_OK && l.read(out, l.least - 1).refusal == WICK_TOO_SHORT;
+    const bool most = l.write(mac, l.target, WICK_LEVEL_CHANGE, data, sizeof data, out, sizeof out).count == l.most;
+    const struct wick_event e = l.read(out, l.most);
+    return least && most && e.refusal == WICK_OK && e.target == l.target && e.n == sizeof data && e.data_at == l.data_at
+        && l.write(mac, l.target + 1, WICK_LEVEL_CHANGE, data, 0, out, sizeof out).refusal == WICK_BAD_ARGUMENT;
+}
+
+static bool layouts() {
+    return events({wick_event, wick_write_event, WICK_EVENT_LEAST, WICK_EVENT_MOST, WICK_EVENT_DATA_AT, WICK_EVENT_TARGET_MOST})
+        && events({wick_event_two, wick_write_event_two, WICK_EVENT_TWO_LEAST, WICK_EVENT_TWO_MOST, WICK_EVENT_TWO_DATA_AT,
+                   WICK_EVENT_TWO_TARGET_MOST});
+}
+
 int main() {
     const uint8_t frame[] = {0xA1, 0x00, 0x02, 0x07, 0x0F, 0xAB};
     uint8_t out[WICK_REPLY_MOST];
     const struct wick_reply r = wick_reply(frame, sizeof frame);
     const struct wick_wrote w = wick_write_reply(WICK_REPLY_ANSWER, r.sequence, frame + r.data_at, r.n, out, sizeof out);
     const struct wick_given v = wick_feed(WICK_REPLY_LINE, wick_reader(), out, w.count);
-    return r.refusal == WICK_OK && w.count == sizeof frame && v.has_item && v.item == 0 && v.count == w.count && scenes() ? 0 : 1;
+    return r.refusal == WICK_OK && w.count == sizeof frame && v.has_item && v.item == 0 && v.count == w.count && scenes() && layouts() ? 0 : 1;
 }

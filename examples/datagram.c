@@ -1,6 +1,8 @@
-/* Says what a datagram is. Its bytes are the arguments, in hexadecimal:  datagram A3 07 01 B1 14 */
+/* Says what a datagram is. Its bytes are the arguments, in hexadecimal:  datagram A3 07 01 B1 14
+   Behind -2 events have targets of two bytes, not of three:  datagram -2 5A 43 7C BA CC 2F 40 2E 00 3B 00 01 05 6D */
 #include <stdio.h>
 #include <stdlib.h>
+#include <string.h>
 #include "wickanchor.h"
 
 static void bytes(const uint8_t *data, uint64_t n) {
@@ -16,11 +18,12 @@ static const char *name(uint8_t kind, uint8_t number) {
 int main(int argc, char **argv) {
     uint8_t d[256];
     uint64_t n = 0;
-    for (int i = 1; i < argc && n < sizeof d; i++) d[n++] = (uint8_t)strtoul(argv[i], NULL, 16);
+    int two = argc > 1 && strcmp(argv[1], "-2") == 0;
+    for (int i = 1 + two; i < argc && n < sizeof d; i++) d[n++] = (uint8_t)strtoul(argv[i], NULL, 16);
 
     struct wick_request q = wick_request(d, n);
     struct wick_reply r = wick_reply(d, n);
-    struct wick_event v = wick_event(d, n);
+    struct wick_event v = two ? wick_event_two(d, n) : wick_event(d, n);
     if (!q.refusal) {
         printf("request %u: %s, arguments %u %u %u %u", q.sequence, name(WICK_KIND_COMMAND, q.command), q.a, q.b, q.c, q.d);
     } else if (!r.refusal) {

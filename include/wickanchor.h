@@ -15,8 +15,9 @@
 #include <stdint.h>
 
 /* Grows with each change of what is declared here, or of what the functions answer. 2: wick_name; names as text were a header of their own.
-   3: command A1 takes scenes 13 to 15 (W-201). */
-#define WICKANCHOR_VERSION 3
+   3: command A1 takes scenes 13 to 15 (W-201). 4: events whose target has two bytes (W-206): wick_event_two, wick_write_event_two,
+   wick_relay_event_two. */
+#define WICKANCHOR_VERSION 4
 
 #ifdef __cplusplus
 extern "C" {
@@ -38,6 +39,10 @@ extern "C" {
 #define WICK_EVENT_DATA_MOST 48
 #define WICK_EVENT_DATA_AT 13
 #define WICK_EVENT_TARGET_MOST 0xFFFFFF
+#define WICK_EVENT_TWO_LEAST 13
+#define WICK_EVENT_TWO_MOST 61
+#define WICK_EVENT_TWO_DATA_AT 12
+#define WICK_EVENT_TWO_TARGET_MOST 0xFFFF
 #define WICK_FILTERS_MOST 15
 #define WICK_NAME_MOST 33
 
@@ -318,6 +323,7 @@ struct wick_wrote wick_write_unicast(uint8_t sequence, uint16_t port, struct wic
 struct wick_wrote wick_relay_request(const uint8_t *bytes, uint64_t length, uint8_t *out, uint64_t room);
 struct wick_wrote wick_relay_reply(const uint8_t *bytes, uint64_t length, uint8_t *out, uint64_t room);
 struct wick_wrote wick_relay_event(const uint8_t *bytes, uint64_t length, uint8_t *out, uint64_t room);
+struct wick_wrote wick_relay_event_two(const uint8_t *bytes, uint64_t length, uint8_t *out, uint64_t room);
 
 /* Reads a reply datagram. Refusals 1, 2, 4, 5, 6. */
 struct wick_reply wick_reply(const uint8_t *bytes, uint64_t length);
@@ -331,11 +337,18 @@ uint8_t wick_error_name(uint8_t code);
 /* Writes a reply with n data bytes. Refusals 2, 4, 8. `data` and `out` must not overlap. */
 struct wick_wrote wick_write_reply(uint8_t kind, uint8_t sequence, const uint8_t *data, uint64_t n, uint8_t *out, uint64_t room);
 
+/* Events come in two layouts, and no byte of a datagram says which: know your controller. The maker's table has a target of three bytes;
+   the functions whose names end in _two are for controllers that send it in two, so that all behind it stands one place earlier (the maker's
+   own examples are such). Some datagrams are events of both layouts, and then of different targets and types. */
+
 /* Reads an event datagram. Refusals 1, 2, 4, 5, 6, 7. */
 struct wick_event wick_event(const uint8_t *bytes, uint64_t length);
+struct wick_event wick_event_two(const uint8_t *bytes, uint64_t length);
 
-/* Writes an event with n data bytes, the instance included. Refusals 4, 7, 8. `data` and `out` must not overlap. */
+/* Writes an event with n data bytes, the instance included. Refusals 4, 7, 8; 7 for a target over WICK_EVENT_TARGET_MOST, or over
+   WICK_EVENT_TWO_TARGET_MOST. `data` and `out` must not overlap. */
 struct wick_wrote wick_write_event(struct wick_mac mac, uint32_t target, uint8_t kind, const uint8_t *data, uint64_t n, uint8_t *out, uint64_t room);
+struct wick_wrote wick_write_event_two(struct wick_mac mac, uint32_t target, uint8_t kind, const uint8_t *data, uint64_t n, uint8_t *out, uint64_t room);
 
 /* Puts the name of a number as text, without a zero byte behind it: no name has more than WICK_NAME_MOST bytes. `kind` is one of enum
    wick_kind. Refusals 7 where it has none (an event type above 9 has none), 8. */

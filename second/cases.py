@@ -66,8 +66,8 @@ def reply(type_, sequence, data):
     return summed(bytes([type_, sequence, len(data)]) + data)
 
 
-def event(target, type_, data):
-    return summed(b"\x5A\x43" + MAC + wide(target, 3) + bytes([type_, len(data)]) + data)
+def event(target, type_, data, width=3):
+    return summed(b"\x5A\x43" + MAC + wide(target, width) + bytes([type_, len(data)]) + data)
 
 
 # Numbers by chance
@@ -345,8 +345,8 @@ def damaged():
 TARGETS = [0, 1, 255, 256, 65535, 65536, 2 ** 24 - 1, 2 ** 24, 2 ** 24 + 1, 2 ** 31, 2 ** 32 - 1]
 
 
-def write_event_call(target, type_, data, buffer):
-    return call("write_event", MAC + wide(target, 4) + bytes([type_]), data, buffer)
+def write_event_call(target, type_, data, buffer, name="write_event"):
+    return call(name, MAC + wide(target, 4) + bytes([type_]), data, buffer)
 
 
 def writers():
@@ -811,6 +811,112 @@ def scenes():
         yield from held_calls("request", 10, basic(7, words[0], words[1:]) + bytes([0x04, 0x00]), [b""])
 
 
+# W-206: events whose target has two bytes
+
+LAYOUTS = [("event", 3), ("event_two", 2)]
+
+
+def event_calls(datagram):
+    """The calls that read a datagram, in both layouts."""
+    for name, _ in LAYOUTS:
+        yield call(name, datagram)
+        yield call(name + "_data", datagram)
+
+
+def printed_events():
+    """The events that source 002 prints, all with two target bytes: in both layouts, as printed and with their sums put right."""
+    for printed in printed_frames():
+        if printed[0] != 0x5A:
+            continue
+        frame = resummed(printed)
+        target, type_, data = opinion.high_first(frame[8:10]), frame[10], frame[12:-1]
+        for datagram in [printed, frame]:
+            yield from event_calls(datagram)
+            for name, _ in LAYOUTS:
+                yield call("relay_" + name, datagram, pattern(len(frame) + 1))
+        for size in range(len(frame) + 3):
+            for name, _ in LAYOUTS:
+                yield write_event_call(target, type_, data, pattern(size), "write_" + name)
+        yield from byte_by_byte(frame)
+
+
+def byte_by_byte(frame):
+    """A frame with each byte changed, as it comes and with its sum put right, and cut and longer: in both layouts."""
+    for datagram in list(byte_changes(frame, range(len(frame)))) + list(size_changes(frame)):
+        yield from event_calls(datagram)
+
+
+# Frames of both layouts, which say two things: type k with k - 1 data bytes behind three target bytes is k data bytes behind two.
+BOTH = [event(0x010203, 7, bytes([6, 1, 2, 3, 4, 5])), event(0x3B0002, 9, bytes([8, 0, 0, 0, 0, 0, 0, 0]))]
+LONG_BOTH = [event(0x000A0C, 48, pattern(47)), event(0xFFFF09, 48, pattern(47))]
+
+
+def two_byte_targets():
+    """Both layouts side by side: the printed events, sizes, lengths, targets, types, every fault alone and with others, and relays."""
+    yield from printed_events()
+    short = [event(0, 3, b"", 2), event(59, 0, bytes([0x05]), 2), event(2 ** 16 - 1, 9, bytes([0x00, 0x0F]), 2)] + BOTH
+    for frame in short:
+        yield from byte_by_byte(frame)
+    for frame in short + LONG_BOTH:
+        yield from event_calls(frame)
+        for size in [0, 1, len(frame) - 1, len(frame), len(frame) + 1]:
+            for name, _ in LAYOUTS:
+                yield call("relay_" + name, frame, pattern(size))
+    # sizes 11 to 16 with the length byte of either layout from 0 to 3, types with and without an instance
+    for size in range(11, 17):
+        for n in range(4):
+            for type_ in [0, 3]:
+                for name, width in LAYOUTS:
+                    head = b"\x5A\x43" + MAC + wide(0x0102, width) + bytes([type_, n])
+                    datagram = summed((head + pattern(size))[:size - 1])
+                    yield from event_calls(datagram)
+                    yield from event_calls(replaced(datagram, size - 1, datagram[-1] ^ 0x20))
+    # lengths about 48 and everywhere, with their data, one byte less and one more
+    for n in list(range(51)) + [64, 127, 128, 255]:
+        for size in [13, 12 + n, 13 + n, 14 + n]:
+            for type_ in [3, 6]:
+                head = b"\x5A\x43" + MAC + bytes([0, 1, type_, n])
+                datagram = summed(head + pattern(max(size - 13, 0)))
+                yield call("event_two", datagram)
+                yield call("event_two", replaced(datagram, len(datagram) - 1, datagram[-1] ^ 0x10))
+    for size in [60, 61, 62, 63]:
+        for n in [47, 48, 49]:
+            yield from event_calls(summed(b"\x5A\x43" + MAC + bytes([0, 59, 3, n]) + pattern(size - 13)))
+    # each byte of the target and the type by itself, read and written
+    for value in range(256):
+        for target in [value, value << 8]:
+            yield call("event_two", event(target, value, b"", 2))
+            yield call("event_two", event(target, value, bytes([value]), 2))
+            yield call("relay_event_two", event(target, value, bytes([value]), 2), pattern(14))
+            yield write_event_call(target, value, b"", pattern(13), "write_event_two")
+            yield write_event_call(target, value, bytes([value]), pattern(14), "write_event_two")
+    for target in TARGETS + [65534, 65537, 2 ** 17, 2 ** 24 + 59]:
+        for type_, n in [(0, 0), (0, 1), (9, 0), (9, 2), (0, 49), (9, 49)]:
+            for size in [0, 12 + n, 13 + n, 15 + n]:
+                yield write_event_call(target, type_, pattern(n), pattern(size), "write_event_two")
+    for type_ in [0, 3, 7, 255]:
+        for n in [0, 1, 2]:
+            for size in range(n + 16):
+                yield write_event_call(59, type_, pattern(n), pattern(size), "write_event_two")
+        for n in [47, 48, 49, 256]:
+            for size in [0, 59, 60, 61, 62, 63, n + 13]:
+                yield write_event_call(2 ** 16 - 1, type_, pattern(n), pattern(size), "write_event_two")
+    # several faults at once, and each lead
+    for type_, data in [(0, b""), (7, b""), (2, bytes([1])), (3, bytes([1]))]:
+        frame = event(59, type_, data, 2)
+        for wrong in subsets([(0, 0x5B), (1, 0x42), (11, 49), (11, 1 - len(data))]):
+            datagram = frame
+            for place, value in wrong:
+                datagram = replaced(datagram, place, value)
+            datagram = resummed(datagram)
+            for size in [0, 2, 12, 13, 14, 15]:
+                for given in [datagram, replaced(datagram, len(frame) - 1, datagram[-1] ^ 0x55)]:
+                    yield call("event_two", (given + b"\x00\x00")[:size])
+                    yield call("relay_event_two", (given + b"\x00\x00")[:size], pattern(size))
+    for lead in range(256):
+        yield call("event_two", resummed(replaced(event(0, 3, b"", 2), lead % 2, lead)))
+
+
 # Lines that are no call
 
 def filled(line, size):
@@ -859,6 +965,8 @@ NO_CALLS = [
     "book_set 00 /" + " 01" * 257, "fresh_request 00", "close_reply 00", "show_reply 00", "hold_reply 00 / 01",
     "hold_reply / 01", "hold_reply 00 00 00 00 00 00 00 01 /" + " A0" * 68,
     "hold_request 00 00 00 00 00 00 00 01 /" + " 04" * 68,
+    "event_two /", "event_two_data 00 / 00", "write_event_two 00 00 00 00 00 00 00 00 00 00 / / 00",
+    "write_event_two 00 00 00 00 00 00 00 00 00 00 00 /", "relay_event_two 00", "event_two_two", "event_twodata", "event_three",
     "help 00", "help /", "help zz", "Help", "helps", "name 01 01", "name 01 / 00", "name 01 01 01 / 00",
 ]
 
@@ -895,6 +1003,7 @@ KINDS = [
     ("relays", relays),
     ("names", names),
     ("scenes of A1 and 1B (W-201)", scenes),
+    ("events of two target bytes (W-206)", two_byte_targets),
     ("lines that are no call", no_calls),
 ]
 

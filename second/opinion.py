@@ -53,9 +53,13 @@ REPLY_SIZE = 4  # and n data bytes
 REPLY_DATA_MOST = 64
 
 EVENT_LEAD = b"\x5A\x43"
-EVENT_SIZE = 14  # and n data bytes
+EVENT_MAC = slice(2, 8)
 EVENT_DATA_MOST = 48
-EVENT_TARGET_SIZE = 3
+
+# How many bytes an event's target has: three in source 002's table, two in the layout of document 02, W-206. "The caller says which
+# applies."
+THREE = 3
+TWO = 2
 
 
 def exclusive_or(run):
@@ -287,24 +291,30 @@ EVENT_NAMES = ["BUTTON_PRESS", "BUTTON_HOLD", "ABSOLUTE_INPUT", "LEVEL_CHANGE", 
 INSTANCE_EVENTS = frozenset([0, 1, 2, 6, 7])
 
 
-def read_event(datagram):
-    """Reads an event datagram."""
-    refuse(1, len(datagram) < EVENT_SIZE)
+def event_size(width):
+    """The bytes of an event without data: "14 + n", and "the least event length in 1 is 13" where the target has two."""
+    return 11 + width
+
+
+def read_event(width, datagram):
+    """Reads an event datagram whose target has so many bytes."""
+    refuse(1, len(datagram) < event_size(width))
     refuse(2, datagram[:2] != EVENT_LEAD)
-    refuse(4, datagram[12] > EVENT_DATA_MOST)
-    refuse(5, len(datagram) != EVENT_SIZE + datagram[12])
+    target, (type_, n), rest = datagram[8:8 + width], datagram[8 + width:10 + width], datagram[10 + width:]
+    refuse(4, n > EVENT_DATA_MOST)
+    refuse(5, len(datagram) != event_size(width) + n)
     refuse(6, exclusive_or(datagram) != 0)
-    event = Event(datagram[2:8], high_first(datagram[8:11]), datagram[11], datagram[13:-1])
+    event = Event(datagram[EVENT_MAC], high_first(target), type_, rest[:n])
     refuse(7, event.type in INSTANCE_EVENTS and not event.data)
     return event
 
 
-def write_event(mac, target, type_, data, buffer):
-    """Writes an event into the lent buffer; gives the count."""
+def write_event(width, mac, target, type_, data, buffer):
+    """Writes an event whose target has so many bytes into the lent buffer; gives the count."""
     refuse(4, len(data) > EVENT_DATA_MOST)
-    refuse(7, target >= 256 ** EVENT_TARGET_SIZE)
+    refuse(7, target >= 256 ** width)
     refuse(7, type_ in INSTANCE_EVENTS and not data)
-    head = EVENT_LEAD + mac + target.to_bytes(EVENT_TARGET_SIZE, "big") + bytes([type_, len(data)])
+    head = EVENT_LEAD + mac + target.to_bytes(width, "big") + bytes([type_, len(data)])
     return write_frame(head, data, buffer)
 
 
@@ -562,8 +572,8 @@ def error_name_fields(code):
     return ["name", error_name(code)] if error_name(code) else ["none"]
 
 
-def event_fields(datagram):
-    event = read_event(datagram)
+def event_fields(width, datagram):
+    event = read_event(width, datagram)
     instance = event_instance(event)
     return (["mac", event.mac, "target", event.target] + event_type_fields(event.type)
             + ["n", len(event.data), "instance", "absent" if instance is None else instance])
@@ -640,9 +650,9 @@ def relay_reply(datagram, buffer):
     return write_reply(reply.type, reply.sequence, reply.data, buffer)
 
 
-def relay_event(datagram, buffer):
-    event = read_event(datagram)
-    return write_event(event.mac, event.target, event.type, event.data, buffer)
+def relay_event(width, datagram, buffer):
+    event = read_event(width, datagram)
+    return write_event(width, event.mac, event.target, event.type, event.data, buffer)
 
 
 # Names of numbers as text, by kind: refusals (ours, docs/BENCH.md), commands, types of replies, error codes and types of events
@@ -709,6 +719,15 @@ def lent(write):
     return answer
 
 
+def by(width, asked):
+    """The calls of events, of one layout."""
+    return lambda *groups: asked(width, *groups)
+
+
+def write_event_by(width, head, data, buffer):
+    return write_event(width, head[:6], high_first(head[6:10]), head[10], data, buffer)
+
+
 DATAGRAM_CALLS = {
     "request": ([SOME], plain(request_fields)),
     "write_basic": ([exactly(6), SOME],
@@ -720,14 +739,16 @@ DATAGRAM_CALLS = {
     "error_code": ([SOME], plain(error_code_fields)),
     "write_reply": ([exactly(2), SOME, SOME],
                     lent(lambda head, data, buffer: write_reply(head[0], head[1], data, buffer))),
-    "event": ([SOME], plain(event_fields)),
-    "event_data": ([SOME], plain(data_fields(read_event))),
-    "write_event": ([exactly(11), SOME, SOME],
-                    lent(lambda head, data, buffer:
-                         write_event(head[:6], high_first(head[6:10]), head[10], data, buffer))),
+    "event": ([SOME], plain(by(THREE, event_fields))),
+    "event_data": ([SOME], plain(data_fields(by(THREE, read_event)))),
+    "write_event": ([exactly(11), SOME, SOME], lent(by(THREE, write_event_by))),
+    "event_two": ([SOME], plain(by(TWO, event_fields))),
+    "event_two_data": ([SOME], plain(data_fields(by(TWO, read_event)))),
+    "write_event_two": ([exactly(11), SOME, SOME], lent(by(TWO, write_event_by))),
     "relay_request": ([SOME, SOME], lent(relay_request)),
     "relay_reply": ([SOME, SOME], lent(relay_reply)),
-    "relay_event": ([SOME, SOME], lent(relay_event)),
+    "relay_event": ([SOME, SOME], lent(by(THREE, relay_event))),
+    "relay_event_two": ([SOME, SOME], lent(by(TWO, relay_event))),
 }
 
 PART_CALLS = {

@@ -57,7 +57,35 @@ STATED_LATER = [
     ("feed_request 04 00 A1 FF 00 00 0F 55", "0 taken 8 item 0 count 8 bytes 04 00 A1 FF 00 00 0F 55"),
     ("feed_request 04 00 A1 FF 00 00 10 4A", "0 taken 8 item 7 count 8 bytes 04 00 A1 FF 00 00 10 4A"),
     ("feed_request 04 00 1B 02 0D 00 00 10", "0 taken 8 item 7 count 8 bytes 04 00 1B 02 0D 00 00 10"),
+    # W-206: "two target bytes"; source 002's own examples have them, with what it says of each byte
+    ("event_two 5A 43 7C BA CC 2F 40 2E 00 3B 00 01 05 6D",
+     "0 mac 7C BA CC 2F 40 2E target 59 type 0 BUTTON_PRESS n 1 instance 5"),
+    ("event_two_data 5A 43 7C BA CC 2F 40 2E 00 3B 00 01 05 6D", "0 data 05"),
+    ("event_two 5A 43 7C BA CC 2F 40 2E 00 3B 08 07 80 FF 00 00 00 00 00 19",
+     "0 mac 7C BA CC 2F 40 2E target 59 type 8 COLOUR_CHANGED n 7 instance absent"),
+    ("event_two_data 5A 43 7C BA CC 2F 40 2E 00 3B 08 07 80 FF 00 00 00 00 00 19", "0 data 80 FF 00 00 00 00 00"),
+    ("event_two 5A 43 7C BA CC 2F 40 2E 00 3B 03 01 FE 95",
+     "0 mac 7C BA CC 2F 40 2E target 59 type 3 LEVEL_CHANGE n 1 instance absent"),
+    ("event_two 5A 43 7C BA CC 2F 40 2E 00 00 09 02 00 0F 59", "6"),
+    ("event_two_data 5A 43 7C BA CC 2F 40 2E 00 00 09 02 00 0F 59", "0 data"),
+    ("event_two 5A 43 7C BA CC 2F 40 2E 00 00 09 02 00 0F 56",
+     "0 mac 7C BA CC 2F 40 2E target 0 type 9 PROFILE_CHANGED n 2 instance absent"),
+    # "the least event length in 1 is 13 for this layout"
+    ("event_two 5A 43 7C BA CC 2F 40 2E 00 3B 03 00", "1"),
+    ("event_two 5A 43 7C BA CC 2F 40 2E 00 3B 03 00 6A",
+     "0 mac 7C BA CC 2F 40 2E target 59 type 3 LEVEL_CHANGE n 0 instance absent"),
+    ("event 5A 43 7C BA CC 2F 40 2E 00 3B 03 00 6A", "1"),
+    ("event_two 5A 43 7C BA CC 2F 40 2E 00 3B 00 00 69", "7"),
+    # document 01: "in writing, an event target too large for its bytes"
+    ("write_event_two 7C BA CC 2F 40 2E 00 00 FF FF 03 / / 00 00 00 00 00 00 00 00 00 00 00 00 00",
+     "0 count 13 before 00 00 00 00 00 00 00 00 00 00 00 00 00 after 5A 43 7C BA CC 2F 40 2E FF FF 03 00 51"),
+    ("write_event_two 7C BA CC 2F 40 2E 00 01 00 00 03 / / 00", "7 before 00 after 00"),
+    ("write_event_two 7C BA CC 2F 40 2E 00 00 FF FF 03 / / 00", "8 before 00 after 00"),
+    ("write_event_two 7C BA CC 2F 40 2E 00 01 00 00 03 /" + " 00" * 49 + " / 00", "4 before 00 after 00"),
 ]
+
+# The events that source 002 prints, in the layout of its table: document 01 keeps to the table.
+PRINTED_EVENTS = ["5", "4", "5", "4", "5"]
 
 SMALL_PROGRAM_OUTPUT = """\
 0 4 A00000A0
@@ -124,6 +152,14 @@ class SelfTest(unittest.TestCase):
                 found = list(items_call_by_call(line, cases.cut(stream, chance)))
                 self.assertEqual(found, list(opinion.items(line, stream)))
                 self.assertEqual(b"".join(run for _, run in found), stream)
+
+    def test_printed_events(self):
+        bench = opinion.Bench()
+        printed = [frame for frame in cases.printed_frames() if frame[:1] == b"\x5A"]
+        for frames in [printed, [cases.resummed(frame) for frame in printed]]:
+            self.assertEqual([bench.answer(cases.call("event", frame).encode("ascii")) for frame in frames], PRINTED_EVENTS)
+        for frame in frames:
+            self.assertEqual(bench.answer(cases.call("event_two", frame).encode("ascii"))[:2], "0 ")
 
     def test_printed_frames(self):
         frames = cases.printed_frames()

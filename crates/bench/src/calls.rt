@@ -11,6 +11,7 @@ use bench_parts::Part;
 use bench_requests::Asked;
 use book::Book;
 use command::Shape;
+use event::Layout;
 use event::Mac;
 use event_type::EventType;
 use frame::Wrote;
@@ -66,6 +67,13 @@ pub fn said(state: State, at: usize) -> Turn {
     Turn { state, at }
 }
 
+// Writes an event: its target and its type stand behind the MAC address.
+fn write_event(layout: Layout, mac: Mac, head: &[u8], data: &[u8], buffer: &mut [u8]) -> Wrote {
+    let target = bench_words::wide32(bench_words::part(head, 6, 10));
+    let kind = bench_words::byte_at(head, 10);
+    writers::event(layout, mac, target, kind, data, buffer)
+}
+
 // What writes into a lent buffer: head is the first group of the call (the datagram of a relay), data its second where it has three.
 fn write(n: usize, head: &[u8], data: &[u8], buffer: &mut [u8]) -> Wrote {
     let a = bench_words::byte_at(head, 0);
@@ -91,15 +99,13 @@ fn write(n: usize, head: &[u8], data: &[u8], buffer: &mut [u8]) -> Wrote {
         }
         0x72 => relay::request(head, buffer),
         0x73 => relay::reply(head, buffer),
-        0x74 => relay::event(head, buffer),
+        0x74 => relay::event(Layout::Three, head, buffer),
         0x75 => names::name(a, b, buffer),
+        0x76 => relay::event(Layout::Two, head, buffer),
         0x80 => writers::reply(a, b, data, buffer),
-        0x81 => {
-            let target = bench_words::wide32(bench_words::part(head, 6, 10));
-            let kind = bench_words::byte_at(head, 10);
-            writers::event(Mac(a, b, c, d, e, f), target, kind, data, buffer)
-        }
-        _ => frame::write(head, data, buffer),
+        0x81 => write_event(Layout::Three, Mac(a, b, c, d, e, f), head, data, buffer),
+        0x82 => frame::write(head, data, buffer),
+        _ => write_event(Layout::Two, Mac(a, b, c, d, e, f), head, data, buffer),
     }
 }
 
@@ -130,15 +136,17 @@ fn read(n: usize, s: &[u8]) -> Read {
     match n {
         0x90 => Read::Reply(reply::read(s)),
         0x91 => Read::Code(reply::error_code(s)),
-        0x92 => Read::Event(event::read(s)),
-        _ => Read::Kind(EventType::of(b)),
+        0x92 => Read::Event(event::read(Layout::Three, s)),
+        0x93 => Read::Kind(EventType::of(b)),
+        _ => Read::Event(event::read(Layout::Two, s)),
     }
 }
 
 fn data_part(n: usize, s: &[u8]) -> &[u8] {
     match n {
         0xA0 => reply::data(s),
-        _ => event::data(s),
+        0xA1 => event::data(Layout::Three, s),
+        _ => event::data(Layout::Two, s),
     }
 }
 

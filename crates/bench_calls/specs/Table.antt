@@ -25,9 +25,13 @@ table =
     ∷ row "event" 0x92_1_000_FFF_FFF
     ∷ row "event_data" 0xA1_1_000_FFF_FFF
     ∷ row "write_event" 0x81_3_00B_00B_FFF
+    ∷ row "event_two" 0x94_1_000_FFF_FFF
+    ∷ row "event_two_data" 0xA2_1_000_FFF_FFF
+    ∷ row "write_event_two" 0x83_3_00B_00B_FFF
     ∷ row "relay_request" 0x72_2_000_FFF_FFF
     ∷ row "relay_reply" 0x73_2_000_FFF_FFF
     ∷ row "relay_event" 0x74_2_000_FFF_FFF
+    ∷ row "relay_event_two" 0x76_2_000_FFF_FFF
     -- Parts of datagrams
     ∷ row "sum" 0x20_1_000_FFF_FFF
     ∷ row "frame" 0x82_3_000_FFF_FFF

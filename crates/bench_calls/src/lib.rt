@@ -30,7 +30,7 @@ pub enum Called {
 // many the second has at most, as digits of one hexadecimal number. FFF is more than a line can name. A third group may
 // have any. The first digit of a call's number is its family: what is answered of it is of one kind. (7 and 8 write into a
 // buffer, which is their last group of two or of three; A gives the data of a datagram.) New calls stand behind those of theirs.
-const ROWS: [usize; 57] = [
+const ROWS: [usize; 61] = [
     // Datagrams
     0x10_1_000_FFF_FFF, // request
     0x70_2_006_006_FFF, // write_basic
@@ -42,9 +42,13 @@ const ROWS: [usize; 57] = [
     0x92_1_000_FFF_FFF, // event
     0xA1_1_000_FFF_FFF, // event_data
     0x81_3_00B_00B_FFF, // write_event
+    0x94_1_000_FFF_FFF, // event_two
+    0xA2_1_000_FFF_FFF, // event_two_data
+    0x83_3_00B_00B_FFF, // write_event_two
     0x72_2_000_FFF_FFF, // relay_request
     0x73_2_000_FFF_FFF, // relay_reply
     0x74_2_000_FFF_FFF, // relay_event
+    0x76_2_000_FFF_FFF, // relay_event_two
     // Parts of datagrams
     0x20_1_000_FFF_FFF, // sum
     0x82_3_000_FFF_FFF, // frame
@@ -97,14 +101,14 @@ const ROWS: [usize; 57] = [
 ];
 
 // Their names, in the order of the rows, with a blank between two.
-const NAMES: [u8; 560] =
+const NAMES: [u8; 617] =
     *b"request write_basic write_unicast reply reply_data error_code write_reply event event_data \
-write_event relay_request relay_reply relay_event sum frame known shape fits error_name \
-event_type group_target lights status device device_number name high_first mask count_types \
-lowest_type scenes gear count_gear lowest_gear types filters filter book_fresh book_set ask \
-answer book_show fresh_request hold_request feed_request close_request show_request \
-settle_request item_request fresh_reply hold_reply feed_reply close_reply show_reply \
-settle_reply item_reply help";
+write_event event_two event_two_data write_event_two relay_request relay_reply relay_event \
+relay_event_two sum frame known shape fits error_name event_type group_target lights status \
+device device_number name high_first mask count_types lowest_type scenes gear count_gear \
+lowest_gear types filters filter book_fresh book_set ask answer book_show fresh_request \
+hold_request feed_request close_request show_request settle_request item_request fresh_reply \
+hold_reply feed_reply close_reply show_reply settle_reply item_reply help";
 
 // Whether two runs hold the same bytes.
 fn same(s: &[u8], t: &[u8]) -> bool
@@ -145,7 +149,7 @@ fn row_of(name: &[u8]) -> usize
     ensures { λ r. ⌜ r ≡ rowOf (now (name .entry)) ⌝ }
 {
     let k = place(&NAMES, name);
-    if k < 57 { ROWS[k] } else { 0 }
+    if k < 61 { ROWS[k] } else { 0 }
 }
 
 // Whether the groups are those that the row asks for.

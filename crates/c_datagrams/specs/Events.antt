@@ -26,10 +26,14 @@ macIn w = record { 0 = w .b0; 1 = w .b1; 2 = w .b2; 3 = w .b3; 4 = w .b4; 5 = w 
 abbrev pub noMac : WickMac
 noMac = record { b0 = 0; b1 = 0; b2 = 0; b3 = 0; b4 = 0; b5 = 0 }
 
-abbrev pub eventOut : Answer Told → WickEvent
-eventOut (refused k) =
-    record { refusal = k; kind = 0; instance = 0; «has_instance» = 0; mac = noMac; target = 0; «data_at» = startIn (refused k) 3; n = 0 }
-eventOut (full e) =
+-- a refusal: every other field is 0
+abbrev pub noEvent : ℕ → WickEvent
+noEvent k = record { refusal = k; kind = 0; instance = 0; «has_instance» = 0; mac = noMac; target = 0; «data_at» = 0; n = 0 }
+
+-- an event, by the width of its target
+abbrev pub eventOut : ℕ → Answer Told → WickEvent
+eventOut w (refused k) = noEvent k
+eventOut w (full e) =
     record {
       refusal = 0;
       kind = kindNumber (e .kind);
@@ -37,6 +41,6 @@ eventOut (full e) =
       «has_instance» = instanceIs (e .instance);
       mac = macOut (e .mac);
       target = e .target;
-      «data_at» = startIn (full e) 3;
+      «data_at» = startIn (full e) w;
       n = e .n;
     }

@@ -18,10 +18,11 @@ pub reply-part : (d : List ℕ)
     → take (replyOut (reply.readReply d) .n) (drop (replyOut (reply.readReply d) .«data_at») d) ≡ reply.dataOf d
 reply-part d = reply-part-in (reply.readReply d) d
 
-event-part-in : (a : Answer event.Told) (d : List ℕ) → take (eventOut a .n) (drop (eventOut a .«data_at») d) ≡ event.dataIn a 3 d
-event-part-in (refused k) d = refl
-event-part-in (full e) d = refl
+event-part-in : (w : ℕ) (a : Answer event.Told) (d : List ℕ)
+    → take (eventOut w a .n) (drop (eventOut w a .«data_at») d) ≡ event.dataIn a w d
+event-part-in w (refused k) d = refl
+event-part-in w (full e) d = refl
 
-pub event-part : (d : List ℕ)
-    → take (eventOut (event.readEvent 3 d) .n) (drop (eventOut (event.readEvent 3 d) .«data_at») d) ≡ event.dataOf 3 d
-event-part d = event-part-in (event.readEvent 3 d) d
+pub event-part : (w : ℕ) (d : List ℕ)
+    → take (eventOut w (event.readEvent w d) .n) (drop (eventOut w (event.readEvent w d) .«data_at») d) ≡ event.dataOf w d
+event-part w d = event-part-in w (event.readEvent w d) d

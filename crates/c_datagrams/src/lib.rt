@@ -10,13 +10,15 @@ ghost use Rattle.request.specs.Said.{saidRequest, said as saidReading};
 ghost use Rattle.error.specs.Error.{saidName};
 ghost use Rattle.reply.specs.Reading.{saidCode, said as saidReply};
 ghost use Rattle.event_type.specs.Types.{saidInstance};
-ghost use Rattle.event.specs.Reading.{saidEvent, said as saidTold};
+ghost use Rattle.event.specs.Layout.{widthOf};
+ghost use Rattle.event.specs.Reading.{saidEvent};
 ghost use Rattle.c_datagrams.specs.Written.{wroteOut};
 ghost use Rattle.c_datagrams.specs.Requests.{aimOut, meansOut, meaningOut, requestOut, addressIn};
 ghost use Rattle.c_datagrams.specs.Replies.{replyOut, nameNo, codeOut};
-ghost use Rattle.c_datagrams.specs.Events.{instanceNo, instanceIs, eventOut, macIn};
+ghost use Rattle.c_datagrams.specs.Events.{instanceNo, instanceIs, noEvent, eventOut, macIn};
 use error::Name;
 use event::Event;
+use event::Layout;
 use event::Mac;
 use event_type::Instance;
 use frame::Wrote;
@@ -357,11 +359,9 @@ fn instance_is(i: Instance) -> u8
     }
 }
 
-// "5A 43, six MAC bytes, three target bytes, event type, n, n data bytes, sum": where the data begin.
-const EVENT_DATA_AT: u64 = 13;
-
-fn accepted_event(e: Event) -> WickEvent
-    ensures { λ w. ⌜ w ≡ eventOut (full (saidEvent e)) ⌝ }
+// An event that was accepted, by its layout.
+pub fn event_out(layout: Layout, e: Event) -> WickEvent
+    ensures { λ w. ⌜ w ≡ eventOut (widthOf layout) (full (saidEvent e)) ⌝ }
 {
     let m = e.mac;
     let t = e.kind;
@@ -380,34 +380,31 @@ fn accepted_event(e: Event) -> WickEvent
             b5: m.5,
         },
         target: e.target,
-        data_at: EVENT_DATA_AT,
+        data_at: layout.data_at() as u64,
         n: e.n as u64,
     }
 }
 
-// What reading an event datagram answers.
-pub fn event_out(r: event::Reading) -> WickEvent
-    ensures { λ w. ⌜ w ≡ eventOut (saidTold r) ⌝ }
+// An event datagram that was refused.
+pub fn event_refused(k: u8) -> WickEvent
+    ensures { λ w. ⌜ w ≡ noEvent k ⌝ }
 {
-    match r {
-        event::Reading::Accepted(x) => accepted_event(x),
-        event::Reading::Refused(k) => WickEvent {
-            refusal: k,
-            kind: 0,
-            instance: 0,
-            has_instance: 0,
-            mac: WickMac {
-                b0: 0,
-                b1: 0,
-                b2: 0,
-                b3: 0,
-                b4: 0,
-                b5: 0,
-            },
-            target: 0,
-            data_at: 0,
-            n: 0,
+    WickEvent {
+        refusal: k,
+        kind: 0,
+        instance: 0,
+        has_instance: 0,
+        mac: WickMac {
+            b0: 0,
+            b1: 0,
+            b2: 0,
+            b3: 0,
+            b4: 0,
+            b5: 0,
         },
+        target: 0,
+        data_at: 0,
+        n: 0,
     }
 }
 

@@ -13,6 +13,9 @@ use Rattle.request.specs.Said.{Heard, heard, arguments, address}
 use Rattle.request.specs.Reading.{readBasic, readUnicast, readRequest}
 use Rattle.reply.specs.declared.Reply.{Reply}
 use Rattle.reply.specs.Reading.{readReply, dataOf}
+use Rattle.event.specs.declared.Layout.{Layout}
+use Rattle.event.specs.Layout.{widthOf}
+use Rattle.event.specs.Reading.{Told, readEvent}
 use Rattle.stream.specs.Stream.{Item, reading, itemsUpTo, items}
 use Rattle.line.specs.declared.Line.the-variants.{Request as OnRequest, Reply as OnReply}
 use Rattle.line.specs.Rule.{settle}
@@ -26,6 +29,7 @@ pub data Case : Type 0 where
   request : List ℕ → Answer Heard → Case
   reply : List ℕ → Answer Reply → Case
   reply-data : List ℕ → List ℕ → Case
+  event : Layout → List ℕ → Answer Told → Case
   types-named : ℕ → ℕ → Case
   lowest-type : ℕ → Answer ℕ → Case
   gear : List ℕ → Answer ℕ → Case
@@ -41,6 +45,7 @@ abbrev pub Holds : Case → Type 0
 Holds (request d a) = readRequest d ≡ a
 Holds (reply d a) = readReply d ≡ a
 Holds (reply-data d l) = dataOf d ≡ l
+Holds (event y d a) = readEvent (widthOf y) d ≡ a
 Holds (types-named m n) = countOf 16 m ≡ n
 Holds (lowest-type m a) = lowestOf 16 m ≡ a
 Holds (gear s a) = gearOf s ≡ a

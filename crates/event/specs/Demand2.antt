@@ -21,11 +21,12 @@ use Rattle.order.specs.Big.{bigBytes}
 use Rattle.order.specs.Numbers.{length-big, big-are-bytes, number-of-bytes, bytes-of-number, number-below}
 use Rattle.event_type.specs.Types.{lacks}
 use Rattle.event_type.specs.Laws.{number-kept}
-use Rattle.event.specs.Layout.{Fields, event, InRange, event-fits, macBytes, front, head, layout}
+use Rattle.event.specs.Layout.{widthOf, Fields, event, InRange, event-fits, macBytes, front, head, layout}
 use Rattle.event.specs.Layout.{targetAt, typeAt, countAt, dataAt, least}
 use Rattle.event.specs.Reading.{Told, macOf, eventIn, readEvent, fieldsOf}
 use Rattle.event.specs.Writing.{eventFrame}
 use Rattle.event.specs.Fits.{accepts, frames}
+use Rattle.event.specs.declared.Layout.{Layout}
 use Rattle.event.specs.declared.Mac.{Mac}
 
 abbrev pub frameOf : ℕ → Fields → Answer (List ℕ)
@@ -194,3 +195,8 @@ pub events : (w : ℕ) → Demand2 (InRange w) (layout w) (readEvent w) (fieldsO
 events w =
     demand2 (InRange w) (layout w) (readEvent w) (fieldsOf w) (InRange w) (frameOf w)
     (accepted-frame w) (frame-bytes w) (frame-sum w) (frame-accepted w) (λ f i. i) (in-range-written w) (read-written w)
+
+-- and so for each layout: document 02, W-206, "Demand 2 counts it with the published layouts from then on"
+pub published : (l : Layout)
+    → Demand2 (InRange (widthOf l)) (layout (widthOf l)) (readEvent (widthOf l)) (fieldsOf (widthOf l)) (InRange (widthOf l)) (frameOf (widthOf l))
+published l = events (widthOf l)

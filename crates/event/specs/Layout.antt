@@ -1,6 +1,7 @@
 -- Document 01, "Frames": the fields of an event, document 01's ranges for them, and the published layout, over the width of
 -- the target (3 bytes in source 002's table).
 --   Event, 14 + n bytes: 5A 43, six MAC bytes, three target bytes, event type, n, n data bytes, sum; n is 0 to 48.
+-- Document 02, W-206: two target bytes, "beside the old one; the caller says which applies".
 use Prim.Native.Nat.{ℕ, suc, _+_, _^_, _≤_, _<_}
 use mathlib.Core.Path.{_≡_}
 use mathlib.Core.Bool.{false}
@@ -11,7 +12,14 @@ use Rattle.sum.specs.Bytes.{Bytes}
 use Rattle.frame.specs.Frame.{sealed}
 use Rattle.order.specs.Big.{bigBytes}
 use Rattle.event_type.specs.Types.{lacks}
+use Rattle.event.specs.declared.Layout.{Layout}
+use Rattle.event.specs.declared.Layout.the-variants.{Three, Two}
 use Rattle.event.specs.declared.Mac.{Mac}
+
+-- how many target bytes each layout has
+abbrev pub widthOf : Layout → ℕ
+widthOf Three = 3
+widthOf Two = 2
 
 -- where an event's parts stand: the MAC from 2, the target from 8, then the type, n, and the data
 abbrev pub targetAt : ℕ
@@ -26,7 +34,7 @@ countAt w = suc (typeAt w)
 abbrev pub dataAt : ℕ → ℕ
 dataAt w = suc (countAt w)
 
--- "14 + n bytes": the least of an event, whose target has three
+-- "14 + n bytes": the least of an event, 14 where its target has three; "13 for this layout", where it has two
 abbrev pub least : ℕ → ℕ
 least w = suc (dataAt w)
 

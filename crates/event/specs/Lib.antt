@@ -5,6 +5,7 @@ pub mod Writing
 -- what is claimed of it
 pub mod Determined
 pub mod Demand2
+pub mod Least
 -- what only serves proofs
 pub mod Fits
 pub mod Again

@@ -7,7 +7,9 @@ ghost use Rattle.request.specs.Said.{fieldsOf, saidRequest};
 ghost use Rattle.request.specs.Reading.{readRequest};
 ghost use Rattle.request.specs.Writing.{writerOf};
 ghost use Rattle.reply.specs.Reading.{readReply};
+ghost use Rattle.event.specs.Layout.{widthOf};
 ghost use Rattle.event.specs.Reading.{readEvent};
+use event::Layout;
 use frame::Wrote;
 use request::Contents;
 use request::Request;
@@ -49,22 +51,17 @@ pub fn reply(s: &[u8], out: &mut [u8]) -> Wrote
     }
 }
 
-pub fn event(s: &[u8], out: &mut [u8]) -> Wrote
-    ensures { λ r. ⌜ Written (relayed (readEvent 3 (now (s .entry))) (now (s .entry))) (now (out .entry)) r (now (out .exit)) ⌝ }
+pub fn event(layout: Layout, s: &[u8], out: &mut [u8]) -> Wrote
+    ensures { λ r. ⌜ Written (relayed (readEvent (widthOf layout) (now (s .entry))) (now (s .entry))) (now (out .entry)) r (now (out .exit)) ⌝ }
 {
-    let r = event::read(s);
+    let r = event::read(layout, s);
     match r {
         event::Reading::Accepted(event) => {
             let mac = event.mac;
             let kind = event.kind;
-            let end = event.n + event::DATA_AT;
-            writers::event(
-                mac,
-                event.target,
-                kind.number(),
-                &s[event::DATA_AT..end],
-                out,
-            )
+            let at = layout.data_at();
+            let end = event.n + at;
+            writers::event(layout, mac, event.target, kind.number(), &s[at..end], out)
         }
         event::Reading::Refused(k) => Wrote::Refused(k),
     }

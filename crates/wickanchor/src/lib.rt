@@ -47,6 +47,7 @@ use c_values::WickGiven;
 use c_values::WickItem;
 use c_values::WickNumber;
 use c_values::WickReader;
+use event::Layout;
 use meaning::Arguments;
 use target::Device;
 use target::Group;
@@ -161,15 +162,21 @@ pub extern "C" fn wick_name(kind: u8, number: u8, out: &mut [u8]) -> WickWrote
     c_datagrams::wrote_out(names::name(kind, number, out))
 }
 
-// Reads an event datagram.
+// Reads an event datagram whose target has three bytes. (The refusal is returned by itself: the compiler then writes either answer once,
+// straight into the caller's struct.)
 #[no_mangle]
 pub extern "C" fn wick_event(s: &[u8]) -> WickEvent
-    ensures { λ w. ⌜ w ≡ eventOut (readEvent 3 (now (s .entry))) ⌝ }
+    ensures { λ w. ⌜ w ≡ eventOut 3 (readEvent 3 (now (s .entry))) ⌝ }
 {
-    c_datagrams::event_out(event::read(s))
+    match event::read(Layout::Three, s) {
+        event::Reading::Accepted(e) => c_datagrams::event_out(Layout::Three, e),
+        event::Reading::Refused(k) => {
+            return c_datagrams::event_refused(k);
+        }
+    }
 }
 
-// Writes an event.
+// Writes an event whose target has three bytes.
 #[no_mangle]
 pub extern "C" fn wick_write_event(
     mac: WickMac,
@@ -180,15 +187,64 @@ pub extern "C" fn wick_write_event(
 ) -> WickWrote
     ensures { λ w. ⌜ WrittenOut (eventFrame 3 (macIn mac) target kind (now («data» .entry))) (now (out .entry)) w (now (out .exit)) ⌝ }
 {
-    c_datagrams::wrote_out(writers::event(c_datagrams::mac_in(mac), target, kind, data, out))
+    c_datagrams::wrote_out(writers::event(
+        Layout::Three,
+        c_datagrams::mac_in(mac),
+        target,
+        kind,
+        data,
+        out,
+    ))
 }
 
-// Reads an event and writes it again.
+// Reads an event whose target has three bytes and writes it again.
 #[no_mangle]
 pub extern "C" fn wick_relay_event(s: &[u8], out: &mut [u8]) -> WickWrote
     ensures { λ w. ⌜ WrittenOut (relayed (readEvent 3 (now (s .entry))) (now (s .entry))) (now (out .entry)) w (now (out .exit)) ⌝ }
 {
-    c_datagrams::wrote_out(relay::event(s, out))
+    c_datagrams::wrote_out(relay::event(Layout::Three, s, out))
+}
+
+// Reads an event datagram whose target has two bytes.
+#[no_mangle]
+pub extern "C" fn wick_event_two(s: &[u8]) -> WickEvent
+    ensures { λ w. ⌜ w ≡ eventOut 2 (readEvent 2 (now (s .entry))) ⌝ }
+{
+    match event::read(Layout::Two, s) {
+        event::Reading::Accepted(e) => c_datagrams::event_out(Layout::Two, e),
+        event::Reading::Refused(k) => {
+            return c_datagrams::event_refused(k);
+        }
+    }
+}
+
+// Writes an event whose target has two bytes.
+#[no_mangle]
+pub extern "C" fn wick_write_event_two(
+    mac: WickMac,
+    target: u32,
+    kind: u8,
+    data: &[u8],
+    out: &mut [u8],
+) -> WickWrote
+    ensures { λ w. ⌜ WrittenOut (eventFrame 2 (macIn mac) target kind (now («data» .entry))) (now (out .entry)) w (now (out .exit)) ⌝ }
+{
+    c_datagrams::wrote_out(writers::event(
+        Layout::Two,
+        c_datagrams::mac_in(mac),
+        target,
+        kind,
+        data,
+        out,
+    ))
+}
+
+// Reads an event whose target has two bytes and writes it again.
+#[no_mangle]
+pub extern "C" fn wick_relay_event_two(s: &[u8], out: &mut [u8]) -> WickWrote
+    ensures { λ w. ⌜ WrittenOut (relayed (readEvent 2 (now (s .entry))) (now (s .entry))) (now (out .entry)) w (now (out .exit)) ⌝ }
+{
+    c_datagrams::wrote_out(relay::event(Layout::Two, s, out))
 }
 
 // The event mask of two bytes.

@@ -2,21 +2,21 @@ use borrow.Author.Needs.{needs}
 use Rattle.c_datagrams.proofs.event_out.Statement.{statement}
 use Rattle.c_datagrams.proofs.event_out.Tie as tie
 
-enum-known-r : tie.Need-enum-known-r
-enum-known-r c = search needs
+number-requires : tie.Need-number-requires
+number-requires c κs = search needs
 
-accepted-event-requires : tie.Need-accepted-event-requires
-accepted-event-requires c κs = search needs
+instance-no-requires : tie.Need-instance-no-requires
+instance-no-requires c κs = search needs
 
-enum-known-r-2 : tie.Need-enum-known-r-2
-enum-known-r-2 c = search needs
+instance-is-requires : tie.Need-instance-is-requires
+instance-is-requires c κs = search needs
+
+data-at-requires : tie.Need-data-at-requires
+data-at-requires c κs = search needs
 
 returns : tie.Need-returns
-returns c = rw (c .before .before .r .given .1) (c .accepted-event .ensures)
-
-returns-2 : tie.Need-returns-2
-returns-2 c = rw (c .before .r2 .given .1)
+returns c = rw (c .before .before .before .number .ensures, c .before .before .instance-no .ensures, c .before .instance-is .ensures, c .data-at .ensures)
 
 pub event-out-spec : {M : Type 1} → statement M
 event-out-spec =
-    tie.close (tie.spec enum-known-r accepted-event-requires enum-known-r-2 returns returns-2)
+    tie.close (tie.spec number-requires instance-no-requires instance-is-requires data-at-requires returns)

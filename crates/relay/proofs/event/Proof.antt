@@ -4,6 +4,7 @@ use native.Mathlib.Omega.{arith}
 use Rattle.refusal.specs.Answer.{full, told}
 use Rattle.sum.specs.Bytes.{Bytes}
 use Rattle.frame.specs.Written.{refuses}
+use Rattle.event.specs.Layout.{widthOf}
 use Rattle.event.specs.Reading.{readEvent, saidEvent, said}
 use Rattle.event.specs.Fits.{read-fits}
 use Rattle.event.specs.Again.{read-again}
@@ -11,12 +12,12 @@ use borrow.Author.Needs.{needs}
 use Rattle.relay.proofs.event.Statement.{statement}
 use Rattle.relay.proofs.event.Tie as tie
 
-good : (c : tie.After-struct-known) → readEvent 3 (c .before .before .before .before .before .before .before .before .args .s .now) ≡ full (saidEvent (c .before .before .before .r .given .0 .0))
-good c = told said (c .before .before .before .before .before .read .result) (c .before .before .before .before .before .read .ensures) (c .before .before .before .r .given .1)
+good : (c : tie.After-struct-known) → readEvent (widthOf (c .before .before .before .before .before .before .before .before .before .args .layout)) (c .before .before .before .before .before .before .before .before .before .args .s .now) ≡ full (saidEvent (c .before .before .before .before .r .given .0 .0))
+good c = told said (c .before .before .before .before .before .before .read .result) (c .before .before .before .before .before .before .read .ensures) (c .before .before .before .before .r .given .1)
 
 -- a slice of `u8` holds bytes
-bytes : (c : tie.After-struct-known) → Bytes (c .before .before .before .before .before .before .before .before .args .s .now)
-bytes c = record { byte = λ i. omega (arith, c .before .before .before .before .before .before .before .shared-slice-known .given i) }
+bytes : (c : tie.After-struct-known) → Bytes (c .before .before .before .before .before .before .before .before .before .args .s .now)
+bytes c = record { byte = λ i. omega (arith, c .before .before .before .before .before .before .before .before .shared-slice-known .given i) }
 
 read-requires : tie.Need-read-requires
 read-requires c κs = search needs
@@ -24,8 +25,11 @@ read-requires c κs = search needs
 enum-known-r : tie.Need-enum-known-r
 enum-known-r c = search needs
 
+data-at-requires : tie.Need-data-at-requires
+data-at-requires c κs = search needs
+
 add-end : tie.Need-add-end
-add-end c = omega (arith, read-fits 3 _ _ (good c))
+add-end c = omega (arith, c .before .data-at .ensures, read-fits _ _ _ (good c))
 
 number-requires : tie.Need-number-requires
 number-requires c κs = search needs
@@ -37,7 +41,7 @@ part-event-start : tie.Need-part-event-start
 part-event-start c = search needs
 
 part-event-end : tie.Need-part-event-end
-part-event-end c = omega (arith, read-fits 3 _ _ (good (c .before)))
+part-event-end c = omega (arith, c .before .before .data-at .ensures, read-fits _ _ _ (good (c .before)))
 
 event-requires : tie.Need-event-requires
 event-requires c κs = search needs
@@ -50,9 +54,11 @@ same-length c = search needs
 
 returns : tie.Need-returns
 returns c =
-    let r = saidEvent (c .before .before .before .before .before .before .before .before .before .r .given .0 .0) in
-    let e : r .n + 13 - 13 ≡ r .n = omega arith in
-    rw (good (c .before .before .before .before .before .before)) (rw (e, c .before .before .before .before .before .number .ensures, read-again 3 _ r (bytes (c .before .before .before .before .before .before)) (good (c .before .before .before .before .before .before))) at (c .before .before .event .ensures))
+    let r = saidEvent (c .before .before .before .before .before .before .before .before .before .before .r .given .0 .0) in
+    let at = c .before .before .before .before .before .before .before .data-at .result in
+    let g = good (c .before .before .before .before .before .before) in
+    let e : r .n + at - at ≡ r .n = omega arith in
+    rw g (rw (e, c .before .before .before .before .before .before .before .data-at .ensures, c .before .before .before .before .before .number .ensures, read-again _ _ r (bytes (c .before .before .before .before .before .before)) g) at (c .before .before .event .ensures))
 
 returns-2 : tie.Need-returns-2
 returns-2 c = rw (told said (c .before .before .before .read .result) (c .before .before .before .read .ensures) (c .before .r2 .given .1)) (refuses (c .before .before .before .before .before .before .args .out .now) refl)
@@ -63,6 +69,7 @@ event-spec =
     (tie.spec
     read-requires
     enum-known-r
+    data-at-requires
     add-end
     number-requires
     sub-event
