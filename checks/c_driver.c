@@ -14,6 +14,12 @@ static struct group g[3];
 static struct wick_book book;
 static struct wick_reader readers[2];
 
+/* The capture: its buffer in memory of its own size, how many bytes are in use, summary and mark */
+static struct group kept;
+static uint64_t used;
+static struct wick_summary summary;
+static struct wick_mark mark;
+
 /* Answers are made of these */
 static void hex(const uint8_t *bytes, uint64_t n) {
     for (uint64_t i = 0; i < n; i++) printf(" %02X", bytes[i]);
@@ -383,6 +389,159 @@ static void show_reply(void) { show(WICK_REPLY_LINE); }
 static void item_request(void) { item_at(WICK_REQUEST_LINE); }
 static void item_reply(void) { item_at(WICK_REPLY_LINE); }
 
+/* The capture */
+static void time_(const char *word, uint8_t has, uint32_t seconds) {
+    if (has) number(word, seconds);
+    else printf(" %s absent", word);
+}
+
+static void summary_(struct wick_summary x) {
+    number("records", x.records);
+    time_("first", x.has_first, x.first);
+    time_("last", x.has_last, x.last);
+    printf(" counts");
+    for (int i = 0; i < WICK_COUNTS; i++) printf(" %u", x.counts[i]);
+}
+
+/* What an answer hands over: a flag is 0 or 1, and an absent time 0; a refused call hands over what came in, or nothing at all */
+static const struct wick_summary no_summary;
+static const struct wick_mark no_mark;
+
+static void plain(uint8_t has, uint32_t seconds) {
+    if (has > 1 || (!has && seconds)) printf(" NOT PLAIN");
+}
+
+static void same_time(uint8_t a_has, uint32_t a, uint8_t b_has, uint32_t b) {
+    if (!a_has != !b_has || (a_has && a != b)) printf(" NOT THE SAME");
+}
+
+static void plain_summary(struct wick_summary x) {
+    plain(x.has_first, x.first);
+    plain(x.has_last, x.last);
+}
+
+static void same_summary(struct wick_summary a, struct wick_summary b) {
+    plain_summary(a);
+    same_time(a.has_first, a.first, b.has_first, b.first);
+    same_time(a.has_last, a.last, b.has_last, b.last);
+    if (a.records != b.records) printf(" NOT THE SAME");
+    for (int i = 0; i < WICK_COUNTS; i++)
+        if (a.counts[i] != b.counts[i]) printf(" NOT THE SAME");
+}
+
+static void same_mark(struct wick_mark a, struct wick_mark b) {
+    plain(a.has_last, a.last);
+    same_time(a.has_last, a.last, b.has_last, b.last);
+    if (a.used != b.used) printf(" NOT THE SAME");
+}
+
+static uint32_t four(const uint8_t *bytes) { return (uint32_t)high_first(bytes, 4); }
+
+static void capture_set(void) {
+    free(kept.bytes);
+    kept.n = g[1].n;
+    kept.bytes = lent(g[1]);
+    used = high_first(g[0].bytes, 8);
+    printf("0");
+}
+
+static void summary_set(void) {
+    const uint8_t *b = g[0].bytes;
+    summary = (struct wick_summary){four(b), b[4], b[9], four(b + 5), four(b + 10), {0}};
+    for (int i = 0; i < WICK_COUNTS; i++) summary.counts[i] = four(b + 14 + 4 * i);
+    printf("0");
+}
+
+static void mark_set(void) {
+    const uint8_t *b = g[0].bytes;
+    mark = (struct wick_mark){high_first(b, 8), b[8], four(b + 9)};
+    printf("0");
+}
+
+/* Mark and summary that a call hands over are carried on, beside the bytes in use */
+static int carried(struct wick_capture r, struct wick_mark m, struct wick_summary x) {
+    printf("%u", r.refusal);
+    if (r.refusal) {
+        same_mark(r.mark, m);
+        same_summary(r.summary, x);
+        return 0;
+    }
+    plain(r.mark.has_last, r.mark.last);
+    plain_summary(r.summary);
+    used = r.mark.used;
+    mark = r.mark;
+    summary = r.summary;
+    number("used", used);
+    return 1;
+}
+
+static void capture_empty(void) { carried(wick_capture_empty(g[0].bytes[0], kept.bytes, kept.n), no_mark, no_summary); }
+
+static void capture_append(void) {
+    struct wick_appended r = wick_capture_append(kept.bytes, kept.n, used, summary, four(g[0].bytes), g[1].bytes, g[1].n);
+    printf("%u", r.refusal);
+    if (r.refusal) {
+        if (r.used != used) printf(" NOT THE SAME");
+        same_summary(r.summary, summary);
+        return;
+    }
+    plain_summary(r.summary);
+    used = r.used;
+    summary = r.summary;
+    number("used", used);
+}
+
+static void capture_append_at(void) {
+    carried(wick_capture_append_at(kept.bytes, kept.n, mark, summary, four(g[0].bytes), g[1].bytes, g[1].n), mark, summary);
+}
+
+static void capture_open(void) {
+    struct wick_opened r = wick_capture_open(kept.bytes, kept.n, used);
+    printf("%u", r.refusal);
+    if (r.refusal) {
+        same_mark(r.mark, no_mark);
+        return;
+    }
+    plain(r.mark.has_last, r.mark.last);
+    mark = r.mark;
+    number("used", mark.used);
+    time_("last", mark.has_last, mark.last);
+}
+
+static void capture_count(void) {
+    struct wick_counted r = wick_capture_count(kept.bytes, kept.n, used);
+    printf("%u", r.refusal);
+    if (r.refusal) same_summary(r.summary, no_summary);
+    else summary_(r.summary);
+}
+
+static void capture_prefix(void) {
+    if (carried(wick_capture_prefix(kept.bytes, kept.n, used), no_mark, no_summary)) summary_(summary);
+}
+
+static void capture_record(void) {
+    struct wick_record r = wick_capture_record(kept.bytes, kept.n, used, high_first(g[0].bytes, 8));
+    printf("%u", r.refusal);
+    if (r.refusal) {
+        if (r.seconds || r.datagram_at || r.n || r.next) printf(" NOT 0");
+        return;
+    }
+    number("seconds", r.seconds);
+    printf(" datagram");
+    hex(kept.bytes + r.datagram_at, r.n);
+    number("next", r.next);
+}
+
+static void capture_show(void) {
+    printf("0");
+    number("used", used);
+    printf(" bytes");
+    hex(kept.bytes, kept.n);
+    summary_(summary);
+    number("mark", mark.used);
+    time_("last", mark.has_last, mark.last);
+}
+
 #define CALL(name) {#name, name}
 static const struct {
     const char *name;
@@ -396,6 +555,8 @@ static const struct {
     CALL(lowest_type), CALL(lowest_gear), CALL(filters), CALL(filter), CALL(book_fresh), CALL(book_set), CALL(book_show), CALL(ask), CALL(answer),
     CALL(fresh_request), CALL(fresh_reply), CALL(hold_request), CALL(hold_reply), CALL(feed_request), CALL(feed_reply),
     CALL(close_request), CALL(close_reply), CALL(show_request), CALL(show_reply), CALL(item_request), CALL(item_reply),
+    CALL(capture_set), CALL(summary_set), CALL(mark_set), CALL(capture_empty), CALL(capture_append), CALL(capture_append_at),
+    CALL(capture_open), CALL(capture_count), CALL(capture_prefix), CALL(capture_record), CALL(capture_show),
 };
 #define CALLS (sizeof calls / sizeof *calls)
 

@@ -1,5 +1,5 @@
-// The header in C++: it compiles, its functions link, the scenes that it names are the last that requests take, and the sizes and targets
-// that it names for each layout of events are the ends of theirs.
+// The header in C++: it compiles, its functions link, the scenes that it names are the last that requests take, the sizes and targets
+// that it names for each layout of events are the ends of theirs, and captures are as it says.
 #include "wickanchor.h"
 
 // What writing a request with these arguments is refused with.
@@ -36,10 +36,33 @@ static bool events(const layout &l) {
         && l.write(mac, l.target + 1, WICK_LEVEL_CHANGE, data, 0, out, sizeof out).refusal == WICK_BAD_ARGUMENT;
 }
 
+// The longest event makes the longest record, which stands where the header says, as its datagram does; a type above 9 counts last. Behind
+// it a lower time is refused, without its last byte it is bad and lost, and of the next version there is no capture.
+static bool captures(const layout &l, uint8_t version, uint64_t most) {
+    const struct wick_mac mac = {{0x7C, 0xBA, 0xCC, 0x2F, 0x40, 0x2E}};
+    const uint8_t data[WICK_EVENT_DATA_MOST] = {};
+    uint8_t event[WICK_EVENT_MOST], buf[WICK_CAPTURE_RECORDS_AT + 2 * WICK_RECORD_MOST];
+    const uint64_t n = l.write(mac, l.target, 10, data, sizeof data, event, sizeof event).count;
+    const struct wick_capture e = wick_capture_empty(version, buf, sizeof buf);
+    const struct wick_capture a = wick_capture_append_at(buf, sizeof buf, e.mark, e.summary, 7, event, n);
+    const struct wick_record r = wick_capture_record(buf, sizeof buf, a.mark.used, WICK_CAPTURE_RECORDS_AT);
+    return e.refusal == WICK_OK && buf[0] == version && e.mark.used == WICK_CAPTURE_RECORDS_AT && !e.mark.has_last
+        && a.refusal == WICK_OK && a.mark.used == WICK_CAPTURE_RECORDS_AT + most && a.mark.has_last && a.mark.last == 7
+        && a.summary.records == 1 && a.summary.counts[WICK_COUNTS - 1] == 1
+        && r.refusal == WICK_OK && r.datagram_at == WICK_CAPTURE_RECORDS_AT + WICK_RECORD_DATAGRAM_AT && r.n == n && r.next == a.mark.used
+        && wick_capture_record(buf, sizeof buf, a.mark.used, r.next).refusal == WICK_NONE_THERE
+        && wick_capture_append_at(buf, sizeof buf, a.mark, a.summary, 6, event, n).refusal == WICK_EARLIER_TIME
+        && wick_capture_open(buf, sizeof buf, a.mark.used - 1).refusal == WICK_BAD_RECORD
+        && wick_capture_prefix(buf, sizeof buf, a.mark.used - 1).mark.used == WICK_CAPTURE_RECORDS_AT
+        && wick_capture_empty(WICK_CAPTURE_TWO + 1, buf, sizeof buf).refusal == WICK_UNKNOWN_VERSION;
+}
+
 static bool layouts() {
-    return events({wick_event, wick_write_event, WICK_EVENT_LEAST, WICK_EVENT_MOST, WICK_EVENT_DATA_AT, WICK_EVENT_TARGET_MOST})
-        && events({wick_event_two, wick_write_event_two, WICK_EVENT_TWO_LEAST, WICK_EVENT_TWO_MOST, WICK_EVENT_TWO_DATA_AT,
-                   WICK_EVENT_TWO_TARGET_MOST});
+    const layout three = {wick_event, wick_write_event, WICK_EVENT_LEAST, WICK_EVENT_MOST, WICK_EVENT_DATA_AT, WICK_EVENT_TARGET_MOST};
+    const layout two = {wick_event_two, wick_write_event_two, WICK_EVENT_TWO_LEAST, WICK_EVENT_TWO_MOST, WICK_EVENT_TWO_DATA_AT,
+                        WICK_EVENT_TWO_TARGET_MOST};
+    return events(three) && events(two) && captures(three, WICK_CAPTURE_THREE, WICK_RECORD_MOST)
+        && captures(two, WICK_CAPTURE_TWO, WICK_RECORD_TWO_MOST);
 }
 
 int main() {

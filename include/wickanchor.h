@@ -2,13 +2,15 @@
 
    What is asked of a caller:
    - A run of bytes is a pointer and a length, and so many bytes can be read there. NULL with length 0 is an empty run.
-   - A lent buffer `out` has `room` bytes that can be written, and shares no byte with any other run of the same call.
+   - A lent buffer, `out` or `buf`, has `room` bytes that can be written, and shares no byte with any other run of the same call. (A `const`
+     one is only read.)
    - No run lies in the variable that the call's answer is assigned to. (Structs go by value: `book = wick_ask(book, command).book` is fine.)
    - Nothing is asked of the bytes, numbers and structs that are handed in. Functions keep nothing between calls, and may run at once.
 
-   `refusal` is 0 where a call is not refused; then the fields count. Else it is one of enum wick_refusal, and all other fields are 0
-   (but for a book, which is handed back as it was). The lowest number that applies is given. A refused writer writes no byte; one that
-   is not refused writes `count` bytes, and leaves those behind them. */
+   `refusal` is 0 where a call is not refused; then the fields count. Else it is one of enum wick_refusal, and all other fields are 0 (but
+   for a book, and for mark, summary and bytes in use of an append, which are handed back as they were). The lowest number that applies is
+   given; calls of a capture give the first in the order in which their refusals stand below. A refused writer writes no byte; one that is not
+   refused writes `count` bytes, and leaves those behind them. */
 #ifndef WICKANCHOR_H
 #define WICKANCHOR_H
 
@@ -16,8 +18,8 @@
 
 /* Grows with each change of what is declared here, or of what the functions answer. 2: wick_name; names as text were a header of their own.
    3: command A1 takes scenes 13 to 15 (W-201). 4: events whose target has two bytes (W-206): wick_event_two, wick_write_event_two,
-   wick_relay_event_two. */
-#define WICKANCHOR_VERSION 4
+   wick_relay_event_two. 5: captures (W-207): the functions whose names begin with wick_capture, and refusals 14 to 16, which have names. */
+#define WICKANCHOR_VERSION 5
 
 #ifdef __cplusplus
 extern "C" {
@@ -46,6 +48,14 @@ extern "C" {
 #define WICK_FILTERS_MOST 15
 #define WICK_NAME_MOST 33
 
+/* Of captures: where the first record begins, the bytes of a record in front of its datagram, the most bytes of a record in each layout of
+   events, and how many counts a summary has */
+#define WICK_CAPTURE_RECORDS_AT 1
+#define WICK_RECORD_DATAGRAM_AT 6
+#define WICK_RECORD_MOST 68
+#define WICK_RECORD_TWO_MOST 67
+#define WICK_COUNTS 11
+
 /* The last scene of WICK_DALI_SCENE, which takes all that DALI has, and of WICK_QUERY_SCENE_LABEL_FOR_GROUP */
 #define WICK_DALI_SCENE_MOST 15
 #define WICK_LABELLED_SCENE_MOST 12
@@ -63,11 +73,15 @@ enum wick_refusal {
     WICK_BAD_LENGTH = 5,            /* the datagram's length is not the one that its frame states */
     WICK_BAD_SUM = 6,
     WICK_BAD_ARGUMENT = 7,          /* outside the table; an instance event without data; an event target too large */
-    WICK_NO_ROOM = 8,               /* the buffer is shorter than the frame */
+    WICK_NO_ROOM = 8,               /* the buffer is shorter than the frame, or than the capture with the record; a count of 32 bits is full */
     WICK_NO_NUMBER_FREE = 9,        /* all 256 sequence numbers are unanswered */
     WICK_NOT_AWAITED = 10,          /* a reply's sequence number */
     WICK_BAD_DATA_SIZE = 11,        /* of reply data */
-    WICK_NONE_THERE = 12            /* lowest of an empty map; no such filter entry */
+    WICK_NONE_THERE = 12,           /* lowest of an empty map; no such filter entry; no record behind the last */
+    WICK_UNKNOWN_VERSION = 14,      /* of a capture */
+    WICK_BAD_RECORD = 15,           /* cut short, of length under 4, of seconds below the one before, or whose datagram its layout refuses;
+                                       also a capture of no version byte, or with more bytes in use than there are */
+    WICK_EARLIER_TIME = 16          /* seconds lower than the last record's */
 };
 
 /* The 32 commands, by the maker's names */
@@ -292,6 +306,57 @@ struct wick_item {
     uint64_t count;
 };
 
+/* The version byte of a capture: the layout of its events */
+enum wick_capture_version {
+    WICK_CAPTURE_THREE = 1,         /* the target has three bytes */
+    WICK_CAPTURE_TWO = 2            /* it has two */
+};
+
+/* A summary of a capture's records, and a mark, with which the next record is appended in the time of one datagram. A caller keeps them,
+   hands them in by value, and goes on with those handed back. Beside a time stands a flag: handed in, 0 says that the time is absent,
+   whatever its number, and every other flag that it is there; handed back, a flag is 0 or 1, and an absent time 0. */
+struct wick_summary {
+    uint32_t records;
+    uint8_t has_first, has_last;
+    uint32_t first, last;           /* seconds of the first and the last record */
+    uint32_t counts[WICK_COUNTS];   /* records of event type 0 to 9, and of all others */
+};
+
+struct wick_mark {
+    uint64_t used;                  /* how many bytes of the buffer are in use */
+    uint8_t has_last;
+    uint32_t last;                  /* seconds of the last record */
+};
+
+struct wick_capture {
+    uint8_t refusal;
+    struct wick_mark mark;
+    struct wick_summary summary;
+};
+
+struct wick_appended {
+    uint8_t refusal;
+    uint64_t used;                  /* afterwards */
+    struct wick_summary summary;    /* afterwards */
+};
+
+struct wick_opened {
+    uint8_t refusal;
+    struct wick_mark mark;
+};
+
+struct wick_counted {
+    uint8_t refusal;
+    struct wick_summary summary;
+};
+
+struct wick_record {
+    uint8_t refusal;
+    uint32_t seconds;
+    uint64_t datagram_at, n;        /* the datagram is the n bytes of the buffer from datagram_at on */
+    uint64_t next;                  /* the place of the next record */
+};
+
 WICK_SIZE(struct wick_aim, 2);
 WICK_SIZE(struct wick_meaning, 8);
 WICK_SIZE(struct wick_address, 4);
@@ -309,6 +374,13 @@ WICK_SIZE(struct wick_booked, 259);
 WICK_SIZE(struct wick_reader, 80);
 WICK_SIZE(struct wick_given, 176);
 WICK_SIZE(struct wick_item, 16);
+WICK_SIZE(struct wick_summary, 60);
+WICK_SIZE(struct wick_mark, 16);
+WICK_SIZE(struct wick_capture, 88);
+WICK_SIZE(struct wick_appended, 80);
+WICK_SIZE(struct wick_opened, 24);
+WICK_SIZE(struct wick_counted, 64);
+WICK_SIZE(struct wick_record, 32);
 
 /* Reads a request datagram. Refusals 1, 2, 3, 4, 5, 6, 7. */
 struct wick_request wick_request(const uint8_t *bytes, uint64_t length);
@@ -410,6 +482,45 @@ struct wick_given wick_close(uint8_t line, struct wick_reader reader);
 
 /* What stands at a position of a line from which on these bytes are there. `closed` is not 0 where no more come. */
 struct wick_item wick_item_at(uint8_t line, uint8_t closed, const uint8_t *bytes, uint64_t length);
+
+/* A capture is the first `used` bytes of a buffer: a version byte, then records one behind the other, each a length in two bytes, which
+   counts what follows it, seconds in four, and an event's datagram; all numbers high byte first. Seconds never fall.
+
+   How a year is kept. A capture begins with wick_capture_empty. Each event goes in with wick_capture_append_at and the mark and the summary
+   that the call before handed back; as long as nothing else writes the bytes in use, that answers what wick_capture_append answers, which
+   walks the whole capture each time. Nothing but the bytes has to outlive the program: wick_capture_prefix finds mark and summary again, also
+   where a write was torn, and loses only what was torn; what it lost are the bytes behind its mark. examples/capture.c does all this with a
+   file. */
+
+/* Empties a capture: writes the version byte, one of enum wick_capture_version, and no other. Refusals 8 (a buffer of no bytes), 14. */
+struct wick_capture wick_capture_empty(uint8_t version, uint8_t *buf, uint64_t room);
+
+/* Appends an event of n bytes behind the bytes in use. First seconds become these where the summary has none, last seconds become these,
+   the number of records and the count of the event's type go up by one. The summary is not compared with the records. Refusals 14, 15;
+   those of reading the event; 16; 8 (no room in the buffer, or in one of the two counts). Then no byte is written, and bytes in use (or
+   mark) and summary are those handed in. `datagram` and `buf` must not overlap.
+   The first judges the whole capture. The second, by a mark, judges the version byte and that so many bytes are there, takes the mark's
+   seconds at its word, and looks at no record: its time does not depend on the capture. It writes the record at the mark, whatever stood
+   there. */
+struct wick_appended wick_capture_append(uint8_t *buf, uint64_t room, uint64_t used, struct wick_summary summary, uint32_t seconds,
+                                         const uint8_t *datagram, uint64_t n);
+struct wick_capture wick_capture_append_at(uint8_t *buf, uint64_t room, struct wick_mark mark, struct wick_summary summary, uint32_t seconds,
+                                           const uint8_t *datagram, uint64_t n);
+
+/* Opens a capture: walks it once, and hands out its mark. Refusals 14, 15. */
+struct wick_opened wick_capture_open(const uint8_t *buf, uint64_t room, uint64_t used);
+
+/* Counts a capture afresh. Refusals 14, 15; then 8 where it has more records than 32 bits count. */
+struct wick_counted wick_capture_count(const uint8_t *buf, uint64_t room, uint64_t used);
+
+/* The longest good capture at the front of the bytes in use: the version byte, and all records before the first that is bad. Bytes in use
+   beyond the buffer's end count as not there. Refusals 14, 15 (no version byte). */
+struct wick_capture wick_capture_prefix(const uint8_t *buf, uint64_t room, uint64_t used);
+
+/* The record that begins at a place, in bytes from the front of the buffer: the first at WICK_CAPTURE_RECORDS_AT, the others where the one
+   before says `next`. The records before it are not looked at. Refusals 14, 15 (no version byte, or more in use than there is); 12 at the
+   end of the bytes in use; 15 where no good record begins there. */
+struct wick_record wick_capture_record(const uint8_t *buf, uint64_t room, uint64_t used, uint64_t place);
 
 #ifdef __cplusplus
 }

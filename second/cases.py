@@ -917,6 +917,437 @@ def two_byte_targets():
         yield call("event_two", resummed(replaced(event(0, 3, b"", 2), lead % 2, lead)))
 
 
+# W-207: the year's capture, and both ways of appending to it
+
+COUNT_MOST = 2 ** 32 - 1
+USE_MOST = 2 ** 64 - 1
+
+VERSIONS = [(1, 3), (2, 2)]  # with the bytes of a target
+UNKNOWN_VERSIONS = [0, 3, 255]
+
+
+def record(seconds, datagram):
+    """A record with its right length; whether the datagram is good is not asked."""
+    content = wide(seconds, 4) + datagram
+    return wide(len(content), 2) + content
+
+
+def spare(run, size):
+    """A buffer: the run, and so many bytes behind it."""
+    return run + pattern(size)
+
+
+def flagged(seconds, flag=1):
+    """A flag and a time; for None a flag of 00, and bytes behind it that count for nothing."""
+    return bytes([0, 0xDE, 0xAD, 0xBE, 0xEF]) if seconds is None else bytes([flag]) + wide(seconds, 4)
+
+
+def capture_set(used, buffer):
+    return call("capture_set", wide(used, 8), buffer)
+
+
+def summary_set(records, first, last, counts):
+    return call("summary_set", wide(records, 4) + flagged(first) + flagged(last) + b"".join(wide(count, 4) for count in counts))
+
+
+def mark_set(used, last):
+    return call("mark_set", wide(used, 8) + flagged(last))
+
+
+def capture_empty(version):
+    return call("capture_empty", [version])
+
+
+def append(seconds, datagram):
+    return call("capture_append", wide(seconds, 4), datagram)
+
+
+def append_at(seconds, datagram):
+    return call("capture_append_at", wide(seconds, 4), datagram)
+
+
+def record_from(place):
+    return call("capture_record", wide(place, 8))
+
+
+APPENDS = [append, append_at]
+
+# A summary that belongs to no capture here.
+SOME_COUNTS = [11, 22, 33, 44, 55, 66, 77, 88, 99, 110, 121]
+SOME_SUMMARY = summary_set(726, 5, 6, SOME_COUNTS)
+
+TIMES = [0x01020304, 0x01020304, 0x01020405]  # two of them equal
+
+
+def small_events(width):
+    """Three good datagrams: without data, with an instance and with more."""
+    return [event(59, 3, b"", width), event(0x0102, 6, bytes([5]), width), event(2 ** 16 - 1, 12, bytes([1, 2]), width)]
+
+
+def small_records(width):
+    """Three good records."""
+    return [record(seconds, datagram) for seconds, datagram in zip(TIMES, small_events(width))]
+
+
+def small_capture(version, width, count=3):
+    """A good capture of the first of these records."""
+    return bytes([version]) + b"".join(small_records(width)[:count])
+
+
+def starts(records):
+    """Where each of a capture's records begins, and where the last ends."""
+    places = [1]
+    for run in records:
+        places.append(places[-1] + len(run))
+    return places
+
+
+# Faults of captures
+
+def refused_datagrams(width):
+    """A datagram for each of 1, 2, 4, 5, 6 and 7."""
+    good = event(59, 3, b"", width)
+    n = 9 + width
+    return [good[:-1], resummed(replaced(good, 1, 0x42)), resummed(replaced(good, n, 49)), resummed(replaced(good, n, 1)),
+            replaced(good, len(good) - 1, good[-1] ^ 0x55), event(59, 0, b"", width)]
+
+
+def other_layout(width):
+    """A datagram that is good in the other layout alone."""
+    return event(0x0102, 4, bytes([7, 7]), 5 - width)
+
+
+def bad_records(width, seconds, before):
+    """Bytes that are no good record: one left over, each length under 4, no datagram, lengths too great, refused datagrams, the other
+    layout's; and as the last of them, seconds below the one before."""
+    datagram = event(59, 3, b"", width)
+    good = record(seconds, datagram)
+    yield good[:1]
+    for length in range(4):
+        yield wide(length, 2) + wide(seconds, 4)[:length]
+    yield record(seconds, b"")
+    yield replaced(good, 1, good[1] + 1)
+    yield b"\xFF\xFF" + good[2:]
+    for refused in refused_datagrams(width) + [other_layout(width)]:
+        yield record(seconds, refused)
+    yield record(before - 1, datagram)
+
+
+def judged(used, buffer, width, places):
+    """A capture handed in, and the calls that judge it; then on from its good prefix."""
+    yield capture_set(used, buffer)
+    yield from ["capture_open", "capture_count", append(COUNT_MOST, event(1, 9, b"", width)), "capture_show"]
+    yield from [record_from(place) for place in places]
+    yield from ["capture_prefix", append_at(COUNT_MOST, event(1, 8, b"", width)), "capture_show"]
+
+
+def claims():
+    """What is carried at first; then no buffer, none in use, unknown versions, and more in use than there is."""
+    yield from ["capture_show", "capture_open", "capture_count", "capture_prefix", record_from(0), record_from(1), capture_empty(1)]
+    yield from [way(0, event(1, 3, b"")) for way in APPENDS] + ["capture_show", SOME_SUMMARY]
+    for used in [0, 1, 2 ** 63, USE_MOST]:
+        yield from judged(used, b"", 3, [0, 1, used])
+    for version, width in VERSIONS + [(version, 3) for version in UNKNOWN_VERSIONS]:
+        for count, more in [(0, 0), (2, 30)]:
+            run = small_capture(version, width, count)
+            buffer = spare(run, more)
+            for used in [0, len(run), len(buffer) + 1, len(buffer) + 2 ** 63, USE_MOST]:
+                yield from judged(used, buffer, width, [1, used])
+
+
+def record_faults():
+    """Each bad record in each of three places; seconds that fall in the second or third; and bad records with no use, with an unknown
+    version and with more in use than there is."""
+    yield SOME_SUMMARY
+    for version, width in VERSIONS:
+        for place in range(3):
+            bads = list(bad_records(width, TIMES[place], TIMES[0]))
+            for bad in bads if place > 0 else bads[:-1]:
+                records = small_records(width)[:2]
+                records.insert(place, bad)
+                run = bytes([version]) + b"".join(records)
+                yield from judged(len(run), spare(run, 30), width, starts(records)[place:place + 2])
+    for number, times in enumerate([(5, 9, 7), (9, 5, 9), (5, 9, 5), (7, 7, 6), (0, COUNT_MOST, COUNT_MOST - 1), (1, 0, 0),
+                                     (0, 0, 0)]):
+        version, width = VERSIONS[number % 2]
+        records = [record(seconds, datagram) for seconds, datagram in zip(times, small_events(width))]
+        run = bytes([version]) + b"".join(records)
+        yield from judged(len(run), spare(run, 30), width, starts(records)[:3])
+    # a length with a wrong high byte, and one low byte first
+    for version, width in VERSIONS:
+        good = small_records(width)[0]
+        for bad in [b"\x01" + good[1:], good[1::-1] + good[2:]]:
+            run = bytes([version]) + bad
+            yield from judged(len(run), spare(run, 30), width, [1])
+    for number, bad in enumerate(bad_records(3, TIMES[1], TIMES[0])):
+        run = small_capture(1, 3, 1) + bad
+        unknown = bytes([UNKNOWN_VERSIONS[number % 3]]) + run[1:]
+        for used, buffer in [(0, spare(run, 30)), (len(run) + 31, spare(run, 30)), (len(run), spare(unknown, 30)),
+                             (len(run) + 31, spare(unknown, 30))]:
+            yield capture_set(used, buffer)
+            yield from [append(COUNT_MOST, event(1, 9, b"")), "capture_count", "capture_prefix", "capture_show"]
+
+
+def fault_pairs():
+    """Two bad records in one capture, next to each other or with a good one between them."""
+    for number, first in enumerate(bad_records(3, TIMES[1], TIMES[0])):
+        for place, second in enumerate(bad_records(3, TIMES[2], TIMES[1])):
+            between = small_records(3)[1] if (number + place) % 2 else b""
+            run = small_capture(1, 3, 1) + first + between + second
+            yield from [capture_set(len(run), spare(run, 25)), append(COUNT_MOST, event(1, 9, b"")), "capture_prefix"]
+        yield "capture_show"
+
+
+def order_of_refusals():
+    """Capture faults, datagram faults, an earlier time, no room and full counts together: 14, 15, 1 to 7, 16, 8."""
+    turn = 0
+    for way in APPENDS:
+        for fault in ["none", "version", "record", "claim"]:
+            for short in [0, 1]:
+                for full in [None, "records", "type"]:
+                    version, width = VERSIONS[turn % 2]
+                    turn += 1
+                    run = small_capture(3 if fault == "version" else version, width, 2)
+                    run += b"\x00\x03\x00\x00\x00" if fault == "record" else b""
+                    datagrams = refused_datagrams(width) + [event(1, 3, b"", width)]
+                    buffer = spare(run, len(record(0, datagrams[-1])) - short)
+                    used = len(buffer) + 1 if fault == "claim" else len(run)
+                    counts = replaced_number(SOME_COUNTS, 3, COUNT_MOST) if full == "type" else SOME_COUNTS
+                    yield summary_set(COUNT_MOST if full == "records" else 726, 5, 6, counts)
+                    yield from [capture_set(used, buffer), mark_set(used, TIMES[1])]
+                    for seconds in [TIMES[1] - 1, TIMES[1]]:
+                        yield from [way(seconds, datagram) for datagram in datagrams]
+                    yield "capture_show"
+
+
+def replaced_number(numbers, place, value):
+    """The numbers with another one at the place."""
+    return numbers[:place] + [value] + numbers[place + 1:]
+
+
+# Appending
+
+def times_and_types():
+    """Equal, later and earlier seconds; a summary's two times there or not; every type that has a count, and others."""
+    for version, width in VERSIONS:
+        for way in APPENDS:
+            yield from [capture_set(0, pattern(150)), capture_empty(version), "capture_show"]
+            yield from [way(seconds, event(1, 3, b"", width)) for seconds in [7, 7, 6, 8, 0, 8, COUNT_MOST, COUNT_MOST, COUNT_MOST - 1, 0]]
+            yield from ["capture_show", "capture_count", capture_set(0, pattern(200)), capture_empty(version)]
+            for first in [None, 0, COUNT_MOST]:
+                for last in [None, 0, COUNT_MOST]:
+                    yield from [summary_set(1, first, last, SOME_COUNTS), way(TIMES[2], event(1, 9, b"", width)), "capture_show"]
+            yield capture_set(9, pattern(90))
+            for type_ in list(range(13)) + [127, 128, 255]:
+                yield from [capture_empty(version), way(type_, event(1, type_, bytes([4]), width)), "capture_show"]
+            # frames of both layouts, which have another type in each
+            for frame in BOTH + LONG_BOTH:
+                yield from [capture_empty(version), way(1, frame), "capture_show"]
+
+
+def full_counts():
+    """The number of records and each count at its end and one below it; for a type of its own, one of the others, and another type."""
+    for place in range(12):
+        version, width = VERSIONS[place % 2]
+        run = small_capture(version, width, 1)
+        for most, times in [(COUNT_MOST, 1), (COUNT_MOST - 1, 2)]:
+            numbers = replaced_number([7, 0, 1, 2, 3, 4, 5, 6, 7, 8, 9, 10], place, most)
+            for type_ in sorted(set([max(place - 1, 0), place % 10, 255])):
+                yield from [capture_set(len(run), spare(run, 42)), mark_set(len(run), None)]
+                for way in APPENDS:
+                    yield summary_set(numbers[0], None, TIMES[1], numbers[1:])
+                    yield from [way(TIMES[2], event(1, type_, bytes([1]), width))] * times + ["capture_show"]
+
+
+def rooms():
+    """Buffers too short, just long enough and longer."""
+    for version, width in VERSIONS:
+        for way in APPENDS:
+            for count, n in [(0, 0), (1, 1), (1, 48)]:
+                run = small_capture(version, width, count)
+                datagram = event(1, 3, pattern(n), width)
+                size = len(record(0, datagram))
+                for room in [0, 1, size - 1, size, size + 1]:
+                    yield from [capture_set(len(run), spare(run, room)), mark_set(len(run), None)]
+                    yield from [way(TIMES[2], datagram), "capture_show"]
+
+
+def marks():
+    """Marks of every kind: over good records, over bytes that are none, over an unknown version and over no buffer."""
+    for version, width in VERSIONS:
+        run = small_capture(version, width, 2)
+        buffer = spare(run, 30)
+        datagram = event(1, 9, b"", width)
+        size = len(record(0, datagram))
+        places = [0, 2, len(run) - 1, len(run) + 1, len(buffer) - size, len(buffer) - size + 1, len(buffer) - 1, len(buffer),
+                  len(buffer) + 1, 2 ** 32, 2 ** 63, USE_MOST]
+        lasts = [None, 0, TIMES[1] - 1, TIMES[1], TIMES[1] + 1, COUNT_MOST]
+        for used, last in ([(used, last) for used in places for last in [None, TIMES[1] + 1]]
+                           + [(used, last) for used in [1, len(run)] for last in lasts]):
+            yield from [capture_set(len(run), buffer), mark_set(used, last), append_at(TIMES[1], datagram), "capture_show"]
+    for first in UNKNOWN_VERSIONS + [1, 2]:
+        for used in [0, 1, 3, 40, 41, USE_MOST]:
+            yield from [capture_set(USE_MOST, bytes([first]) + b"\xFF" * 39), mark_set(used, None)]
+            yield from [append_at(0, datagram) for datagram in [b"", event(1, 9, b"", 3), event(1, 9, b"", 2)]] + ["capture_show"]
+    for used in [0, 1, USE_MOST]:
+        yield from [capture_set(0, b""), mark_set(used, None), append_at(0, event(1, 9, b"")), "capture_show"]
+
+
+def stale_marks():
+    """Marks that stayed behind: appended at, opened afresh, inside a record, and over a capture that has become another."""
+    for version, width in VERSIONS:
+        datagrams = small_events(width)
+        yield from [capture_set(0, pattern(120)), capture_empty(version), append_at(10, datagrams[0]), "capture_show"]
+        yield from [append(20, datagrams[1]), "capture_show", append_at(15, datagrams[2]), "capture_show", "capture_count"]
+        yield from [append(15, datagrams[0]), append(14, datagrams[0]), "capture_show", "capture_open", "capture_show"]
+        yield from [append_at(14, datagrams[0]), append_at(15, datagrams[0]), "capture_show", "capture_count", "capture_prefix"]
+        yield from [mark_set(5, None), append_at(0, datagrams[1]), "capture_show", "capture_count", append(99, datagrams[0])]
+        yield from ["capture_open", "capture_show", append_at(99, datagrams[0]), "capture_prefix", "capture_show"]
+        run = small_capture(version, width)
+        yield from [capture_set(len(run), spare(run, 40)), "capture_open", capture_set(1, bytes([3 - version]) + spare(run[1:], 40))]
+        yield from [append_at(COUNT_MOST, datagrams[0]), append_at(COUNT_MOST, other_layout(width)), "capture_show"]
+
+
+def emptying():
+    """Buffers of no byte, one and more; known and unknown versions; whatever was in use, counted and marked before."""
+    for size in [0, 1, 5, 40]:
+        for version in [0, 1, 2, 3, 255]:
+            yield from [SOME_SUMMARY, mark_set(USE_MOST, 77), capture_set([0, 1, USE_MOST][version % 3], pattern(size))]
+            yield from [capture_empty(version), "capture_show", "capture_open", "capture_count"]
+            yield from [append(3, event(1, 3, b"")), append_at(3, event(1, 3, b"", 2)), "capture_show"]
+    for version in range(256):
+        if version & version - 1 == 0:
+            yield capture_empty(version)
+    yield "capture_show"
+
+
+def handed_summaries():
+    """Summaries and marks with each flag; and summaries by chance, which do not belong to the records."""
+    run = small_capture(1, 3, 2)
+    counts = b"".join(wide(count, 4) for count in SOME_COUNTS)
+    flags = [0x00, 0x01, 0x02, 0xFF]
+    for first in flags:
+        for last in flags:
+            yield from [capture_set(len(run), spare(run, 50)), mark_set(len(run), None)]
+            yield call("summary_set", wide(2, 4) + flagged(COUNT_MOST, first) + flagged(1, last) + counts)
+            yield from ["capture_show"] + [way(TIMES[2], event(1, 10, b"")) for way in APPENDS] + ["capture_show"]
+    for last in flags:
+        for seconds in [0, 9]:
+            yield from [capture_set(len(run), spare(run, 30)), call("mark_set", wide(len(run), 8) + flagged(seconds, last))]
+            yield from ["capture_show", append_at(8, event(1, 3, b"")), "capture_show"]
+    chance = Chance(8)
+    for _ in range(20):
+        yield from [capture_set(len(run), spare(run, 50)), "capture_open", call("summary_set", chance.run(58)), "capture_show"]
+        yield from [chance.pick(APPENDS)(TIMES[2], event(1, chance.below(14), bytes([1]))), "capture_count", "capture_show"]
+
+
+# Reading
+
+def torn_tails():
+    """Good captures cut after every byte, and with noise behind them: the good prefix, and on from there, both ways."""
+    for version, width in VERSIONS:
+        run = small_capture(version, width)
+        for size in range(len(run) + 1):
+            way = APPENDS[(size + version) % 2]
+            yield from [capture_set(size, spare(run, 24)), "capture_prefix", way(TIMES[2], event(1, 8, b"", width)), "capture_show"]
+            yield from [capture_set([size, size + 1, USE_MOST][size % 3], run[:size]), "capture_prefix"]
+    chance = Chance(9)
+    for number in range(32):
+        version, width = VERSIONS[number % 2]
+        run = small_capture(version, width, number % 4)
+        noise = chance.pick([chance.run(1 + chance.below(30)), wide(chance.below(30), 2) + chance.run(20), bytes(25),
+                             damaged_frame(chance, small_records(width)[2]), run[1:] + b"\x00"])
+        used = USE_MOST if number % 3 == 0 else len(run) + len(noise)
+        yield from [capture_set(used, spare(run + noise, 24)), "capture_prefix"]
+        yield from [APPENDS[number // 4 % 2](TIMES[2], event(1, 8, b"", width)), "capture_show"]
+
+
+def single_records():
+    """One record from every place of a small capture; out of their order; and a walk from the first to the end."""
+    for version, width in VERSIONS:
+        run = small_capture(version, width)
+        yield capture_set(len(run), spare(run, 30))
+        yield from [record_from(place) for place in list(range(len(run) + 5)) + [len(run) + 30, 2 ** 32, 2 ** 63, USE_MOST - 1, USE_MOST]]
+        yield "capture_show"
+        for used in [1, 2, starts(small_records(width))[1], starts(small_records(width))[1] + 1]:
+            yield capture_set(used, run)
+            yield from [record_from(place) for place in [0, 1, used - 1, used, used + 1, USE_MOST]]
+        records = [record(seconds, datagram) for seconds, datagram in zip([9, 8, 0], small_events(width))]
+        run = bytes([version]) + b"".join(records)
+        yield capture_set(len(run), run)
+        yield from [record_from(place) for place in starts(records)] + ["capture_count", "capture_open"]
+        records = [record(5 * type_, event(type_, type_, pattern(type_ + 1), width)) for type_ in range(13)]
+        run = bytes([version]) + b"".join(records)
+        yield capture_set(len(run), run)
+        yield from [record_from(place) for place in starts(records)] + ["capture_count"]
+
+
+# Whole years in small
+
+def some_event(chance, width):
+    """A good event of the layout."""
+    return event(chance.below(256 ** width), chance.pick(list(range(13)) + [6, 6, 255]), chance.run(1 + chance.below(3)), width)
+
+
+def some_appends(chance, width):
+    """Seconds and datagrams, most of them good and in time."""
+    seconds = chance.below(1000)
+    for _ in range(20 + chance.below(41)):
+        seconds += chance.pick([0, 0, 1, 60, 3600])
+        given = max(0, seconds - 1 - chance.below(100)) if chance.one_in(8) else seconds
+        good = some_event(chance, width)
+        bad = chance.pick([damaged_frame(chance, good), resummed(damaged_frame(chance, good)), good[:chance.below(len(good))],
+                           some_event(chance, 5 - width), event(1, chance.pick([0, 1, 2, 6, 7]), b"", width)])
+        yield given, bad if chance.one_in(4) else good
+
+
+def years():
+    """Runs of appends by chance from an empty capture: the same ones by the letter and by marks, and others by both in turn."""
+    chance = Chance(10)
+    for number in range(12):
+        version, width = VERSIONS[number % 2]
+        buffer = pattern(chance.pick([150, 600, 1000]))
+        appends = list(some_appends(chance, width))
+        for way in APPENDS:
+            yield from [capture_set(0, buffer), capture_empty(version)]
+            yield from [way(seconds, datagram) for seconds, datagram in appends]
+            yield from ["capture_show", "capture_count", "capture_prefix", "capture_show"]
+    for number in range(12):
+        version, width = VERSIONS[number % 2]
+        yield from [capture_set(0, pattern(chance.pick([100, 150, 400]))), capture_empty(version)]
+        for seconds, datagram in some_appends(chance, width):
+            yield chance.pick(APPENDS)(seconds, datagram)
+            if chance.one_in(5):
+                yield chance.pick(["capture_open", "capture_show", "capture_count", "capture_prefix"])
+        yield "capture_show"
+
+
+def longest_buffers():
+    """Buffers of 1300 bytes, filled until there is no more room."""
+    for (version, width), way, n, count in zip(VERSIONS, APPENDS, [20, 48], [36, 22]):
+        yield from [capture_set(USE_MOST, pattern(1300)), capture_empty(version)]
+        yield from [way(1000 + number, event(number, number % 12, pattern(n), width)) for number in range(count)]
+        yield from ["capture_show", "capture_count", "capture_open", "capture_prefix", "capture_show"]
+    run = b"\x02" + record(1, event(1, 3, pattern(36), 2)) * 23 + record(1, event(1, 3, pattern(15), 2))
+    for used in [1299, 1300, 1301]:
+        yield from [capture_set(used, run), "capture_open", "capture_count", record_from(1266), record_from(1300), "capture_prefix"]
+        yield from [append(2, event(1, 3, b"", 2)), "capture_show"]
+
+
+def refusal_names():
+    """The names of the refusals of captures, into buffers of every size about theirs."""
+    for number in range(13, 18):
+        for size in range(9, 17):
+            yield call("name", [0, number], pattern(size))
+
+
+def captures():
+    for part in [claims(), record_faults(), fault_pairs(), order_of_refusals(), times_and_types(), full_counts(), rooms(), marks(),
+                 stale_marks(), emptying(), handed_summaries(), torn_tails(), single_records(), years(), longest_buffers(),
+                 refusal_names()]:
+        yield from part
+
+
 # Lines that are no call
 
 def filled(line, size):
@@ -967,6 +1398,20 @@ NO_CALLS = [
     "hold_request 00 00 00 00 00 00 00 01 /" + " 04" * 68,
     "event_two /", "event_two_data 00 / 00", "write_event_two 00 00 00 00 00 00 00 00 00 00 / / 00",
     "write_event_two 00 00 00 00 00 00 00 00 00 00 00 /", "relay_event_two 00", "event_two_two", "event_twodata", "event_three",
+    "capture", "capture_", "capture_shows", "Capture_show", "captureshow", "summary", "summary_show", "mark", "mark_show",
+    "capture_show zz", "capture_set 0", "capture_append 00 00 00 0 /",
+    "capture_set", "capture_set" + " 00" * 8, "capture_set" + " 00" * 8 + " / 01 / 01", "summary_set /", "summary_set / /",
+    "summary_set" + " 00" * 54 + " /", "mark_set /", "mark_set" + " 00" * 8 + " / 00 00 00 00 00", "capture_empty /",
+    "capture_empty 01 / 00", "capture_append", "capture_append 00 00 00 01", "capture_append 00 00 00 01 / 5A / 43",
+    "capture_append_at", "capture_append_at 00 00 00 01", "capture_append_at / /", "capture_open /", "capture_count /",
+    "capture_prefix / 01", "capture_record" + " 00" * 8 + " /", "capture_show /",
+    "capture_set /", "capture_set / 01", "capture_set" + " 00" * 7 + " / 01", "capture_set" + " 00" * 9 + " / 01",
+    "capture_set" + " 00" * 8 + " /" + " 01" * 1301, "capture_set" + " 00" * 8 + " /" + " 01" * 1352,
+    "capture_set" + " 00" * 8 + " /" + " 01" * 1353, "summary_set", "summary_set" + " 01" * 57, "summary_set" + " 01" * 59,
+    "mark_set", "mark_set" + " 01" * 12, "mark_set" + " 01" * 14, "capture_empty", "capture_empty 01 02",
+    "capture_append /", "capture_append 00 00 01 / 5A", "capture_append 00 00 00 00 01 /", "capture_append_at / 5A",
+    "capture_append_at 00 00 01 / 5A", "capture_append_at 00 00 00 00 01 /", "capture_open 00", "capture_count 00",
+    "capture_prefix 01", "capture_record", "capture_record" + " 00" * 7, "capture_record" + " 00" * 9, "capture_show 00",
     "help 00", "help /", "help zz", "Help", "helps", "name 01 01", "name 01 / 00", "name 01 01 01 / 00",
 ]
 
@@ -975,11 +1420,15 @@ CALLS_SET_OTHERWISE = [
     "   sum   01    02  ", "sum aa Bb cC", "request 04 00 01 0a 00 00 00 0f", "  frame  01  /  02  /  03  04  05  ",
     "frame  /  /  ", " frame / / 00", "hold_reply 00 00 00 00 00 00 00 03 / a0 00 00", " show_reply", "book_set 07 /",
     " book_show ", "book_set 07 /" + " a9" * 256, "ask a9", "book_fresh   ",
+    " capture_set  00 00 00 00 00 00 00 01  /  01  0a ff  ", "  capture_show  ", "capture_open   ", "capture_set 00 00 00 00 00 00 00 00 /",
+    "capture_empty  02", "capture_append 00 00 00 07 /", "capture_set 00 00 00 00 00 00 00 01 /" + " 02" * 1300, " capture_empty 01 ",
+    "capture_append_at 00 00 00 07 / 5a 43 7c ba cc 2f 40 2e 00 00 3b 03 00 6a", "capture_prefix", "capture_record 00 00 00 00 00 00 00 01",
 ]
 
 # What the run carries, set before the lines that are no call and shown behind them.
-CARRIED = ["fresh_request", "fresh_reply", "feed_request 04 00", "feed_reply A1 00 02", "book_fresh", "ask 40"]
-CARRIED_SHOWN = ["show_request", "show_reply", "book_show"]
+CARRIED = ["fresh_request", "fresh_reply", "feed_request 04 00", "feed_reply A1 00 02", "book_fresh", "ask 40",
+           capture_set(0, pattern(30)), SOME_SUMMARY, capture_empty(1), append_at(7, event(59, 3, b"")), append(7, b"")]
+CARRIED_SHOWN = ["show_request", "show_reply", "book_show", "capture_show"]
 
 
 def no_calls():
@@ -1004,6 +1453,7 @@ KINDS = [
     ("names", names),
     ("scenes of A1 and 1B (W-201)", scenes),
     ("events of two target bytes (W-206)", two_byte_targets),
+    ("captures (W-207)", captures),
     ("lines that are no call", no_calls),
 ]
 

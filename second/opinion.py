@@ -18,7 +18,8 @@ class Refusal(Exception):
 
 
 def refuse(number, applies):
-    """Refuses with the number where it applies. Asked in rising order, so that the lowest that applies is given."""
+    """Refuses with the number where it applies. Asked in rising order, so that the lowest that applies is given, but where
+    document 02 states another order."""
     if applies:
         raise Refusal(number)
 
@@ -516,6 +517,189 @@ class Reader:
         return item
 
 
+# The year's capture (document 02, W-207): "a version byte at the front (1 for three target bytes, 2 for two), then records, each a
+# two-byte length first, then seconds in four bytes, then the datagram, all big-endian"
+
+VERSIONS = {1: THREE, 2: TWO}
+VERSION_SIZE = 1
+LENGTH_SIZE = 2
+SECONDS_SIZE = 4
+
+# "A count for each event type 0 to 9 and one for all others, in 32 bits each."
+OTHERS = 10
+COUNT_MOST = 2 ** 32 - 1
+
+Record = namedtuple("Record", "seconds datagram type next")  # next: the place behind it, where another may begin
+Summary = namedtuple("Summary", "records first last counts")
+Mark = namedtuple("Mark", "used last")  # bytes in use, and the last record's seconds
+
+# "Freshly emptied, all counts are 0 and the two times are absent." An absent time is None.
+EMPTY_SUMMARY = Summary(0, None, None, (0,) * (OTHERS + 1))
+EMPTY_MARK = Mark(VERSION_SIZE, None)
+
+
+def version_width(buffer, used):
+    """The width of the targets, by the version byte. "15 also for no version byte": where the buffer or its use has no byte."""
+    refuse(15, len(buffer) == 0 or used == 0)
+    refuse(14, buffer[0] not in VERSIONS)
+    return VERSIONS[buffer[0]]
+
+
+def claimed_width(buffer, used):
+    """The width of the targets, where no more is in use than there is."""
+    width = version_width(buffer, used)
+    refuse(15, used > len(buffer))
+    return width
+
+
+# "A record cut short, of length under 4, .. or whose datagram its layout refuses." "The length counts what follows it."
+def record_at(width, run, place):
+    """The good record that begins at this place of the bytes in use."""
+    begin = place + LENGTH_SIZE
+    refuse(15, begin > len(run))
+    length = high_first(run[place:begin])
+    refuse(15, length < SECONDS_SIZE)
+    end = begin + length
+    refuse(15, end > len(run))
+    datagram = run[begin + SECONDS_SIZE:end]
+    try:
+        event = read_event(width, datagram)
+    except Refusal:
+        raise Refusal(15)
+    return Record(high_first(run[begin:begin + SECONDS_SIZE]), datagram, event.type, end)
+
+
+def walked(width, run):
+    """The records one by one from the version byte on; at the first bad one, 15, also for "seconds below the one before"."""
+    place, last = VERSION_SIZE, 0
+    while place < len(run):
+        record = record_at(width, run, place)
+        refuse(15, record.seconds < last)
+        yield record
+        place, last = record.next, record.seconds
+
+
+def records_in(buffer, used):
+    """All records of a capture: 14 and 15 on it."""
+    return list(walked(claimed_width(buffer, used), buffer[:used]))
+
+
+# "Bytes claimed beyond the buffer's end count as not there."
+def good_records(buffer, used):
+    """The records of the longest prefix that is a good capture: all before the first bad one."""
+    width = version_width(buffer, used)
+    records = []
+    try:
+        for record in walked(width, buffer[:used]):
+            records.append(record)
+    except Refusal:
+        pass
+    return records
+
+
+def mark_behind(records):
+    """The mark behind these records."""
+    return Mark(records[-1].next, records[-1].seconds) if records else EMPTY_MARK
+
+
+def count_place(type_):
+    """The place of a type's count among the eleven."""
+    return min(type_, OTHERS)
+
+
+def counted(records):
+    """The summary counted afresh from these records."""
+    refuse(8, len(records) > COUNT_MOST)
+    if not records:
+        return EMPTY_SUMMARY
+    places = [count_place(record.type) for record in records]
+    counts = tuple(places.count(place) for place in range(OTHERS + 1))
+    return Summary(len(records), records[0].seconds, records[-1].seconds, counts)
+
+
+# "8 for no room .. in a count": the number of records and the count of this type alone.
+def raised(summary, seconds, type_):
+    """The summary with one more record."""
+    place = count_place(type_)
+    refuse(8, summary.records == COUNT_MOST or summary.counts[place] == COUNT_MOST)
+    first = seconds if summary.first is None else summary.first
+    counts = tuple(count + (at == place) for at, count in enumerate(summary.counts))
+    return Summary(summary.records + 1, first, seconds, counts)
+
+
+def record_bytes(seconds, datagram):
+    """A record as it stands in the buffer."""
+    content = seconds.to_bytes(SECONDS_SIZE, "big") + datagram
+    return len(content).to_bytes(LENGTH_SIZE, "big") + content
+
+
+class Capture:
+    """A buffer, its bytes in use as they are claimed, a summary and a mark. At first, a buffer of no bytes."""
+
+    def __init__(self):
+        self.buffer = b""
+        self.used = 0
+        self.summary = EMPTY_SUMMARY
+        self.mark = Mark(0, None)
+
+    # "Emptying gives 14, or 8 for a buffer of no bytes": the lower where both apply.
+    def empty(self, version):
+        """Writes the version byte and no other; gives the bytes in use."""
+        refuse(8, len(self.buffer) == 0)
+        refuse(14, version not in VERSIONS)
+        self.buffer = bytes([version]) + self.buffer[VERSION_SIZE:]
+        self.used, self.summary, self.mark = VERSION_SIZE, EMPTY_SUMMARY, EMPTY_MARK
+        return self.used
+
+    def append(self, seconds, datagram):
+        """Appends by the letter, looking at all records; gives the bytes in use. The mark stays."""
+        return self.append_behind(mark_behind(records_in(self.buffer, self.used)), seconds, datagram)
+
+    def append_at(self, seconds, datagram):
+        """Appends at the mark, which is taken at its word; gives the bytes in use. The mark moves behind the record."""
+        claimed_width(self.buffer, self.mark.used)
+        self.append_behind(self.mark, seconds, datagram)
+        self.mark = Mark(self.used, seconds)
+        return self.used
+
+    # "In appending, 14 and 15 .. on the capture come first, then 1 to 7 for the datagram, then 16, then 8 for no room in the
+    # buffer or in a count."
+    def append_behind(self, mark, seconds, datagram):
+        """Appends behind a mark of a capture that has been judged; gives the bytes in use."""
+        event = read_event(VERSIONS[self.buffer[0]], datagram)
+        refuse(16, mark.last is not None and seconds < mark.last)
+        record = record_bytes(seconds, datagram)
+        end = mark.used + len(record)
+        refuse(8, end > len(self.buffer))
+        self.summary = raised(self.summary, seconds, event.type)
+        self.buffer = self.buffer[:mark.used] + record + self.buffer[end:]
+        self.used = end
+        return self.used
+
+    def open(self):
+        """Looks at all records; gives the mark behind them, which becomes the capture's."""
+        self.mark = mark_behind(records_in(self.buffer, self.used))
+        return self.mark
+
+    def count(self):
+        """The summary counted afresh."""
+        return counted(records_in(self.buffer, self.used))
+
+    def keep_prefix(self):
+        """Keeps the longest prefix that is a good capture, whatever follows it: bytes in use, summary and mark become its own."""
+        records = good_records(self.buffer, self.used)
+        self.summary, self.mark = counted(records), mark_behind(records)
+        self.used = self.mark.used
+        return self.used
+
+    def record(self, place):
+        """The record that begins at the place. Those before it are not looked at."""
+        width = claimed_width(self.buffer, self.used)
+        refuse(12, place == self.used)
+        refuse(15, place < VERSION_SIZE)
+        return record_at(width, self.buffer[:self.used], place)
+
+
 # The calls of docs/BENCH.md: words and groups
 
 LINE_MOST = 4095
@@ -635,6 +819,47 @@ def item_fields(item):
     return ["item", number, "count", len(run), "bytes", run]
 
 
+def time_field(seconds):
+    return "absent" if seconds is None else seconds
+
+
+def summary_fields(summary):
+    return ["records", summary.records, "first", time_field(summary.first), "last", time_field(summary.last),
+            "counts"] + list(summary.counts)
+
+
+def mark_fields(mark):
+    return [mark.used, "last", time_field(mark.last)]
+
+
+def record_fields(record):
+    return ["seconds", record.seconds, "datagram", record.datagram, "next", record.next]
+
+
+# The groups of the calls on the capture
+
+CAPTURE_BUFFER_MOST = 1300
+SUMMARY_SIZE = 58  # records in 4; flag and first in 4; flag and last in 4; eleven counts in 4
+MARK_SIZE = 13  # bytes in use in 8; flag and last in 4
+
+
+# "A flag byte: 00 is no (absent), every other byte is yes. What stands behind a flag of 00 counts for nothing."
+def time_of(group):
+    """The time of a flag and four bytes."""
+    return high_first(group[1:]) if group[0] != 0 else None
+
+
+def summary_of(group):
+    """The summary of its 58 bytes."""
+    counts = tuple(high_first(group[at:at + 4]) for at in range(14, SUMMARY_SIZE, 4))
+    return Summary(high_first(group[:4]), time_of(group[4:9]), time_of(group[9:14]), counts)
+
+
+def mark_of(group):
+    """The mark of its 13 bytes."""
+    return Mark(high_first(group[:8]), time_of(group[8:]))
+
+
 # "Reading a written frame gives its fields back; writing a frame that was read gives its bytes back": a relay reads a
 # datagram and writes what it read.
 
@@ -676,9 +901,14 @@ ERROR_CODE_NAMES = {
     0xB7: "UNEXPECTED_RESULT", 0xB8: "UNKNOWN_TARGET",
 }
 
+REFUSAL_NAMES = {
+    0: "OK", 1: "TOO_SHORT", 2: "BAD_LEAD", 3: "UNKNOWN_COMMAND", 4: "BAD_LENGTH_BYTE", 5: "BAD_LENGTH", 6: "BAD_SUM",
+    7: "BAD_ARGUMENT", 8: "NO_ROOM", 9: "NO_NUMBER_FREE", 10: "NOT_AWAITED", 11: "BAD_DATA_SIZE", 12: "NONE_THERE",
+    14: "UNKNOWN_VERSION", 15: "BAD_RECORD", 16: "EARLIER_TIME",
+}
+
 KIND_NAMES = [
-    dict(enumerate(["OK", "TOO_SHORT", "BAD_LEAD", "UNKNOWN_COMMAND", "BAD_LENGTH_BYTE", "BAD_LENGTH", "BAD_SUM", "BAD_ARGUMENT", "NO_ROOM",
-                    "NO_NUMBER_FREE", "NOT_AWAITED", "BAD_DATA_SIZE", "NONE_THERE"])),
+    REFUSAL_NAMES,
     COMMAND_NAMES,
     {0xA0: "OK", 0xA1: "ANSWER", 0xA2: "NO_ANSWER", 0xA3: "ERROR"},
     ERROR_CODE_NAMES,
@@ -783,11 +1013,12 @@ REPLY_DATA_CALLS = {
 
 
 class Bench:
-    """One run of the bench, with the book and the two readers that it carries."""
+    """One run of the bench, with the book, the two readers and the capture that it carries."""
 
     def __init__(self):
         self.book = Book()
         self.readers = {}
+        self.capture = Capture()
         self.calls = {}
         self.calls.update(DATAGRAM_CALLS)
         self.calls.update(PART_CALLS)
@@ -796,6 +1027,7 @@ class Bench:
         for line in ["request", "reply"]:
             self.readers[line] = Reader(line)
             self.calls.update(self.line_calls(line))
+        self.calls.update(self.capture_calls())
         self.calls["help"] = ([exactly(0)], plain(lambda none: ["calls"] + list(self.calls)))
 
     def book_calls(self):
@@ -842,6 +1074,46 @@ class Bench:
             "show_" + line: ([exactly(0)], plain(lambda none: show())),
             "settle_" + line: ([SOME], plain(lambda run: settle_fields(line, run))),
             "item_" + line: ([exactly(1), SOME], plain(lambda flag, run: item_at_fields(line, flag[0] != 0, run))),
+        }
+
+    def capture_calls(self):
+        """The calls on the capture that is carried."""
+        capture = self.capture
+
+        def set_capture(used, buffer):
+            capture.used, capture.buffer = high_first(used), buffer
+            return []
+
+        def set_summary(group):
+            capture.summary = summary_of(group)
+            return []
+
+        def set_mark(group):
+            capture.mark = mark_of(group)
+            return []
+
+        def keep_prefix():
+            used = capture.keep_prefix()
+            return ["used", used] + summary_fields(capture.summary)
+
+        def show():
+            return (["used", capture.used, "bytes", capture.buffer] + summary_fields(capture.summary)
+                    + ["mark"] + mark_fields(capture.mark))
+
+        return {
+            "capture_set": ([exactly(8), at_most(CAPTURE_BUFFER_MOST)], plain(set_capture)),
+            "summary_set": ([exactly(SUMMARY_SIZE)], plain(set_summary)),
+            "mark_set": ([exactly(MARK_SIZE)], plain(set_mark)),
+            "capture_empty": ([exactly(1)], plain(lambda version: ["used", capture.empty(version[0])])),
+            "capture_append": ([exactly(4), SOME],
+                               plain(lambda seconds, datagram: ["used", capture.append(high_first(seconds), datagram)])),
+            "capture_append_at": ([exactly(4), SOME],
+                                  plain(lambda seconds, datagram: ["used", capture.append_at(high_first(seconds), datagram)])),
+            "capture_open": ([exactly(0)], plain(lambda none: ["used"] + mark_fields(capture.open()))),
+            "capture_count": ([exactly(0)], plain(lambda none: summary_fields(capture.count()))),
+            "capture_prefix": ([exactly(0)], plain(lambda none: keep_prefix())),
+            "capture_record": ([exactly(8)], plain(lambda place: record_fields(capture.record(high_first(place))))),
+            "capture_show": ([exactly(0)], plain(lambda none: show())),
         }
 
     def answer(self, line):

@@ -41,6 +41,10 @@ STATED = [
     ("feed_reply 00 A0 FF", "0 taken 2 item 0 count 4 bytes A0 00 00 A0"),
 ]
 
+# An event of three target bytes and no data, and a summary in which nothing is counted.
+LEVEL_CHANGE = "5A 43 7C BA CC 2F 40 2E 00 00 3B 03 00 6A"
+NOTHING_COUNTED = "records 0 first absent last absent counts 0 0 0 0 0 0 0 0 0 0 0"
+
 # Document 02: what its requests state.
 STATED_LATER = [
     # W-201: "A1 takes D 0-15; 1B keeps 0-12"
@@ -82,6 +86,72 @@ STATED_LATER = [
     ("write_event_two 7C BA CC 2F 40 2E 00 01 00 00 03 / / 00", "7 before 00 after 00"),
     ("write_event_two 7C BA CC 2F 40 2E 00 00 FF FF 03 / / 00", "8 before 00 after 00"),
     ("write_event_two 7C BA CC 2F 40 2E 00 01 00 00 03 /" + " 00" * 49 + " / 00", "4 before 00 after 00"),
+    # W-207: "emptying gives 14, or 8 for a buffer of no bytes"
+    ("capture_show", "0 used 0 bytes " + NOTHING_COUNTED + " mark 0 last absent"),
+    ("capture_empty 01", "8"),
+    ("capture_empty 03", "8"),
+    ("capture_set 00 00 00 00 00 00 00 03 /" + " FF" * 45, "0"),
+    ("capture_empty 03", "14"),
+    ("capture_append 00 00 00 07 / " + LEVEL_CHANGE, "14"),
+    ("capture_empty 00", "14"),
+    ("capture_empty 01", "0 used 1"),
+    # "freshly emptied, all counts are 0 and the two times are absent"
+    ("capture_count", "0 " + NOTHING_COUNTED),
+    ("capture_show", "0 used 1 bytes 01" + " FF" * 44 + " " + NOTHING_COUNTED + " mark 1 last absent"),
+    # "a two-byte length first, then seconds in four bytes, then the datagram, all big-endian"; "the length counts what follows it"
+    ("capture_append 00 00 01 07 / " + LEVEL_CHANGE, "0 used 21"),
+    ("capture_show", "0 used 21 bytes 01 00 12 00 00 01 07 " + LEVEL_CHANGE + " FF" * 24
+     + " records 1 first 263 last 263 counts 0 0 0 1 0 0 0 0 0 0 0 mark 1 last absent"),
+    ("capture_open", "0 used 21 last 263"),
+    # "16 seconds lower than the last record's"; equal ones are not
+    ("capture_append 00 00 01 06 / " + LEVEL_CHANGE, "16"),
+    ("capture_append_at 00 00 01 07 / " + LEVEL_CHANGE, "0 used 41"),
+    # "then 1 to 7 for the datagram, then 16, then 8 for no room"
+    ("capture_append 00 00 01 06 / " + LEVEL_CHANGE, "16"),
+    ("capture_append 00 00 01 07 / " + LEVEL_CHANGE, "8"),
+    ("capture_append 00 00 01 06 / " + LEVEL_CHANGE + " 00", "5"),
+    ("capture_append_at 00 00 01 06 /", "1"),
+    ("capture_show", "0 used 41 bytes 01" + (" 00 12 00 00 01 07 " + LEVEL_CHANGE) * 2 + " FF" * 4
+     + " records 2 first 263 last 263 counts 0 0 0 2 0 0 0 0 0 0 0 mark 41 last 263"),
+    ("capture_count", "0 records 2 first 263 last 263 counts 0 0 0 2 0 0 0 0 0 0 0"),
+    # one record from a place
+    ("capture_record 00 00 00 00 00 00 00 01", "0 seconds 263 datagram " + LEVEL_CHANGE + " next 21"),
+    ("capture_record 00 00 00 00 00 00 00 15", "0 seconds 263 datagram " + LEVEL_CHANGE + " next 41"),
+    ("capture_record 00 00 00 00 00 00 00 29", "12"),
+    ("capture_record 00 00 00 00 00 00 00 2A", "15"),
+    ("capture_record 00 00 00 00 00 00 00 00", "15"),
+    ("capture_record 00 00 00 00 00 00 00 02", "15"),
+    # "a record cut short"; the good prefix loses that one alone
+    ("capture_set 00 00 00 00 00 00 00 28 / 01" + (" 00 12 00 00 01 07 " + LEVEL_CHANGE) * 2, "0"),
+    ("capture_count", "15"),
+    ("capture_append 00 00 01 07 /", "15"),
+    ("capture_prefix", "0 used 21 records 1 first 263 last 263 counts 0 0 0 1 0 0 0 0 0 0 0"),
+    # "of length under 4, of seconds below the one before or whose datagram its layout refuses"
+    ("capture_set 00 00 00 00 00 00 00 06 / 01 00 03 00 00 00", "0"),
+    ("capture_open", "15"),
+    ("capture_set 00 00 00 00 00 00 00 29 / 01 00 12 00 00 01 07 " + LEVEL_CHANGE + " 00 12 00 00 01 06 " + LEVEL_CHANGE, "0"),
+    ("capture_open", "15"),
+    ("capture_set 00 00 00 00 00 00 00 15 / 02 00 12 00 00 01 07 " + LEVEL_CHANGE, "0"),
+    ("capture_open", "15"),
+    ("capture_set 00 00 00 00 00 00 00 14 / 02 00 11 00 00 01 07 5A 43 7C BA CC 2F 40 2E 00 3B 03 00 6A", "0"),
+    ("capture_open", "0 used 20 last 263"),
+    # "15 also for no version byte or more in use than there is"; 14 comes first where a version byte is in use
+    ("capture_set 00 00 00 00 00 00 00 00 / 03", "0"),
+    ("capture_count", "15"),
+    ("capture_set 00 00 00 00 00 00 00 02 / 01", "0"),
+    ("capture_count", "15"),
+    ("capture_prefix", "0 used 1 " + NOTHING_COUNTED),
+    ("capture_set 00 00 00 00 00 00 00 02 / 03", "0"),
+    ("capture_count", "14"),
+    # "8 for no room .. in a count": of this type, not of another
+    ("capture_set 00 00 00 00 00 00 00 01 / 01" + " 00" * 20, "0"),
+    ("mark_set 00 00 00 00 00 00 00 01 00 FF FF FF FF", "0"),
+    ("summary_set 00 00 00 05 02 00 00 00 09 00 FF FF FF FF" + " 00" * 12 + " FF FF FF FF" + " 00" * 28, "0"),
+    ("capture_append_at 00 00 00 01 / " + LEVEL_CHANGE, "8"),
+    ("summary_set 00 00 00 05 02 00 00 00 09 00 FF FF FF FF" + " 00" * 16 + " FF FF FF FF" + " 00" * 24, "0"),
+    ("capture_append_at 00 00 00 01 / " + LEVEL_CHANGE, "0 used 21"),
+    ("capture_show", "0 used 21 bytes 01 00 12 00 00 00 01 " + LEVEL_CHANGE
+     + " records 6 first 9 last 1 counts 0 0 0 1 4294967295 0 0 0 0 0 0 mark 21 last 1"),
 ]
 
 # The events that source 002 prints, in the layout of its table: document 01 keeps to the table.
@@ -118,6 +188,29 @@ def items_call_by_call(line, parts):
         item = reader.close()
 
 
+def empty_capture(version, size):
+    """A capture just emptied, in a buffer of so many bytes."""
+    capture = opinion.Capture()
+    capture.buffer = cases.pattern(size)
+    capture.empty(version)
+    return capture
+
+
+def answered(append, seconds, datagram):
+    """The number of an append's answer and its bytes in use."""
+    try:
+        return 0, append(seconds, datagram)
+    except opinion.Refusal as refusal:
+        return refusal.number, None
+
+
+def runs_of_appends(chance):
+    """Appends by chance in both layouts, with a version and the size of a buffer for each run."""
+    for _ in range(60):
+        for version, width in cases.VERSIONS:
+            yield version, chance.pick([60, 300, 2000]), list(cases.some_appends(chance, width))
+
+
 class SelfTest(unittest.TestCase):
 
     def test_stated_answers(self):
@@ -152,6 +245,51 @@ class SelfTest(unittest.TestCase):
                 found = list(items_call_by_call(line, cases.cut(stream, chance)))
                 self.assertEqual(found, list(opinion.items(line, stream)))
                 self.assertEqual(b"".join(run for _, run in found), stream)
+
+    def test_appends_by_the_letter_and_by_marks(self):
+        for version, size, appends in runs_of_appends(cases.Chance(8)):
+            letter, marked = empty_capture(version, size), empty_capture(version, size)
+            for seconds, datagram in appends:
+                self.assertEqual(answered(letter.append, seconds, datagram), answered(marked.append_at, seconds, datagram))
+                self.assertEqual((letter.buffer, letter.used, letter.summary), (marked.buffer, marked.used, marked.summary))
+                self.assertEqual(marked.mark, letter.open())
+
+    def test_summary_beside_the_records(self):
+        for version, size, appends in runs_of_appends(cases.Chance(9)):
+            capture, kept = empty_capture(version, size), []
+            for seconds, datagram in appends:
+                before, used, summary = capture.buffer, capture.used, capture.summary
+                number, _ = answered(capture.append, seconds, datagram)
+                self.assertEqual(capture.buffer[:used], before[:used])
+                if number == 0:
+                    kept.append((seconds, datagram))
+                else:
+                    self.assertEqual((capture.buffer, capture.used, capture.summary), (before, used, summary))
+                self.assertEqual(capture.buffer[capture.used:], before[capture.used:])
+                self.assertEqual(capture.summary, capture.count())
+            records = opinion.records_in(capture.buffer, capture.used)
+            self.assertEqual([(record.seconds, record.datagram) for record in records], kept)
+            self.assertEqual(capture.summary.records, sum(capture.summary.counts))
+            appended = capture.used, capture.summary
+            self.assertEqual((capture.keep_prefix(), capture.summary), appended)
+
+    def test_torn_tails(self):
+        chance = cases.Chance(10)
+        for version, width in cases.VERSIONS:
+            capture = empty_capture(version, 200)
+            ends = [capture.used]
+            for number in range(5):
+                ends.append(capture.append(number, cases.some_event(chance, width)))
+            whole, records = capture.buffer, opinion.records_in(capture.buffer, capture.used)
+            for cut in range(1, ends[-1] + 1):
+                for tail in [b"", b"\x00", bytes(30), b"\xFF" * 30]:
+                    torn = opinion.Capture()
+                    torn.buffer = whole[:cut] + tail
+                    torn.used = len(torn.buffer)
+                    kept = sum(torn.buffer[:end] == whole[:end] for end in ends) - 1
+                    self.assertEqual(torn.keep_prefix(), ends[kept])
+                    self.assertEqual(torn.summary, opinion.counted(records[:kept]))
+                    self.assertEqual(torn.mark, torn.open())
 
     def test_printed_events(self):
         bench = opinion.Bench()

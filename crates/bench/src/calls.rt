@@ -3,6 +3,9 @@
 use bench_book::Page;
 use bench_calls::Call;
 use bench_calls::Called;
+use bench_capture::Carried;
+use bench_capture::Moved;
+use bench_capture::Tail;
 use bench_datagrams::Read;
 use bench_lines::Shown;
 use bench_maps::Data;
@@ -23,11 +26,12 @@ use target::Device;
 use target::Group;
 use target::LineTarget;
 
-// What the run carries from call to call.
+// What the run carries from call to call. The bytes of the capture's buffer are lent beside it: they stand at the front of a larger one.
 pub struct State {
     book: Book,
     request: Held,
     reply: Held,
+    capture: Carried,
 }
 
 // The state after a line, and the place behind the answer.
@@ -59,6 +63,7 @@ pub fn fresh() -> State {
         book: book::fresh(),
         request: reader::fresh(),
         reply: reader::fresh(),
+        capture: bench_capture::fresh(),
     }
 }
 
@@ -304,6 +309,7 @@ fn moved(n: usize, state: State, s: &[u8], t: &[u8]) -> After {
     let b = state.book;
     let q = state.request;
     let r = state.reply;
+    let capture = state.capture;
     match n / 16 {
         4 => {
             let p = page(n, b, s, t);
@@ -314,6 +320,7 @@ fn moved(n: usize, state: State, s: &[u8], t: &[u8]) -> After {
                     book,
                     request: q,
                     reply: r,
+                    capture,
                 },
                 page: answer,
                 held: q,
@@ -329,6 +336,7 @@ fn moved(n: usize, state: State, s: &[u8], t: &[u8]) -> After {
                     book: b,
                     request,
                     reply: r,
+                    capture,
                 },
                 page: Page::Done,
                 held: request,
@@ -344,6 +352,7 @@ fn moved(n: usize, state: State, s: &[u8], t: &[u8]) -> After {
                     book: b,
                     request: q,
                     reply,
+                    capture,
                 },
                 page: Page::Done,
                 held: reply,
@@ -373,12 +382,107 @@ fn answered(n: usize, a: After, s: &[u8], t: &[u8], u: &[u8], out: &mut [u8], at
     }
 }
 
-fn made(c: Call, state: State, bytes: &[u8], out: &mut [u8], at: usize) -> Turn {
+// A call of the capture that leaves the bytes of its buffer.
+fn looked(n: usize, c: Carried, s: &[u8], buffer: &[u8]) -> Moved {
+    let used = c.used;
+    match n {
+        0xC1 => bench_capture::summary_set(c, s),
+        0xC2 => bench_capture::mark_set(c, s),
+        0xC6 => bench_capture::opened(c, capture::open(buffer, used)),
+        0xC7 => bench_capture::counted(c, capture::count(buffer, used)),
+        0xC8 => bench_capture::found(c, capture::prefix(buffer, used), Tail::Counted),
+        0xC9 => {
+            let place = bench_words::wide64(s) as usize;
+            bench_capture::stepped(c, capture::step(buffer, used, place))
+        }
+        _ => bench_capture::shown(c),
+    }
+}
+
+// A call of the capture but for the one that hands it in, over the bytes of its buffer.
+fn capture(n: usize, c: Carried, s: &[u8], t: &[u8], buffer: &mut [u8]) -> Moved {
+    let summary = c.summary;
+    let seconds = bench_words::wide32(s);
+    match n {
+        0xC3 => {
+            let f = append::empty(buffer, bench_words::byte_at(s, 0));
+            bench_capture::found(c, f, Tail::Nothing)
+        }
+        0xC4 => {
+            let a = append::append(buffer, c.used, summary, seconds, t);
+            bench_capture::appended(c, a)
+        }
+        0xC5 => {
+            let mark = c.mark;
+            let f = append::append_at(buffer, mark, summary, seconds, t);
+            bench_capture::found(c, f, Tail::Nothing)
+        }
+        _ => looked(n, c, s, buffer),
+    }
+}
+
+// A call of the capture, whose buffer is so many bytes at the front of those that are lent: no line can hand in more.
+fn captured(n: usize, c: Carried, s: &[u8], t: &[u8], store: &mut [u8]) -> Moved {
+    let size = c.size;
+    if n == 0xC0 {
+        let e = lent::word(store, 0, t);
+        return bench_capture::capture_set(c, e, bench_words::wide64(s) as usize);
+    }
+    if store.len() < size {
+        return bench_capture::shown(c);
+    }
+    capture(n, c, s, t, &mut store[..size])
+}
+
+// The bytes that a call of the capture shows: the datagram of a record, or the buffer.
+fn part_of(n: usize, c: Carried, place: usize, store: &[u8]) -> &[u8] {
+    let buffer = bench_words::part(store, 0, c.size);
+    match n {
+        0xC9 => capture::datagram(buffer, c.used, place),
+        _ => buffer,
+    }
+}
+
+// A call of the capture, and its answer.
+fn stored(
+    n: usize,
+    state: State,
+    s: &[u8],
+    t: &[u8],
+    store: &mut [u8],
+    out: &mut [u8],
+    at: usize,
+) -> Turn {
+    let book = state.book;
+    let request = state.request;
+    let reply = state.reply;
+    let before = state.capture;
+    let m = captured(n, before, s, t, store);
+    let c = m.carried;
+    let head = m.head;
+    let tail = m.tail;
+    let summary = m.summary;
+    let shown = part_of(n, c, bench_words::wide64(s) as usize, store);
+    Turn {
+        state: State {
+            book,
+            request,
+            reply,
+            capture: c,
+        },
+        at: bench_capture::say(out, at, head, tail, summary, shown),
+    }
+}
+
+fn made(c: Call, state: State, bytes: &[u8], store: &mut [u8], out: &mut [u8], at: usize) -> Turn {
     let n = c.number;
     let g = c.groups;
     let s = bench_words::part(bytes, 0, g.a);
     let t = bench_words::part(bytes, g.a, g.b);
     let u = bench_words::part(bytes, g.b, g.c);
+    if n / 16 == 12 {
+        return stored(n, state, s, t, store, out, at);
+    }
     let a = moved(n, state, s, t);
     let next = a.state;
     Turn {
@@ -388,12 +492,12 @@ fn made(c: Call, state: State, bytes: &[u8], out: &mut [u8], at: usize) -> Turn 
 }
 
 // The answer to a line with a word in it.
-pub fn answer(state: State, line: &[u8], out: &mut [u8], at: usize) -> Turn {
+pub fn answer(state: State, line: &[u8], store: &mut [u8], out: &mut [u8], at: usize) -> Turn {
     let mut space = io::buffer();
     let bytes: &mut [u8] = &mut space;
     let c = bench_calls::read(line, bytes);
     let Called::Call(call) = c else {
         return said(state, bench_calls::refused(out, at, c));
     };
-    made(call, state, bytes, out, at)
+    made(call, state, bytes, store, out, at)
 }

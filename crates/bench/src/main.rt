@@ -1,7 +1,7 @@
 // The bench: reads calls from standard input to its end, one to a line, and writes one answer to a line. docs/BENCH.md is
 // the protocol. What a line says and how an answer reads is the business of the crates bench_..; here lines are cut out of
-// the input, calls are made (calls.rt), and answers are written out. A book, a reader of the request line and one of the
-// reply line are carried by the run, and no function but those that answer a line knows of them.
+// the input, calls are made (calls.rt), and answers are written out. A book, a reader of the request line, one of the reply
+// line and a capture are carried by the run, and no function but those that answer a line knows of them.
 mod calls;
 
 use calls::State;
@@ -150,7 +150,7 @@ fn turned(r: Run, input: &mut [u8], line: &mut [u8], out: &[u8]) -> Run {
 }
 
 // The answer to a line that has ended, without its line feed.
-fn answered(r: Run, state: State, line: &[u8], out: &mut [u8]) -> Turn {
+fn answered(r: Run, state: State, line: &[u8], store: &mut [u8], out: &mut [u8]) -> Turn {
     let at = r.at;
     let t = r.text;
     if !(t.ended & t.word) {
@@ -160,7 +160,7 @@ fn answered(r: Run, state: State, line: &[u8], out: &mut [u8]) -> Turn {
         return calls::said(state, lent::word(out, at, b"? line too long"));
     }
     let whole = bench_words::part(line, 0, t.len);
-    calls::answer(state, whole, out, at)
+    calls::answer(state, whole, store, out, at)
 }
 
 // Behind a line that has ended, a line feed, and the next line.
@@ -179,9 +179,16 @@ fn onward(r: Run, out: &mut [u8], at: usize) -> Run {
 }
 
 // One turn of the run: the next bytes, and the answer where they end a line. The last answers are written out.
-fn turn(run: Run, state: State, input: &mut [u8], line: &mut [u8], out: &mut [u8]) -> Next {
+fn turn(
+    run: Run,
+    state: State,
+    input: &mut [u8],
+    line: &mut [u8],
+    store: &mut [u8],
+    out: &mut [u8],
+) -> Next {
     let r = turned(run, input, line, out);
-    let t = answered(r, state, line, out);
+    let t = answered(r, state, line, store, out);
     let after = onward(r, out, t.at);
     if after.over {
         flush(out, after.at);
@@ -195,7 +202,7 @@ fn turn(run: Run, state: State, input: &mut [u8], line: &mut [u8], out: &mut [u8
 }
 
 // Reads to the end of the input. Nothing says that it ends, so the turns are counted.
-fn read_all(input: &mut [u8], line: &mut [u8], out: &mut [u8]) {
+fn read_all(input: &mut [u8], line: &mut [u8], store: &mut [u8], out: &mut [u8]) {
     let mut next = Next {
         run: begin(false),
         state: calls::fresh(),
@@ -205,7 +212,7 @@ fn read_all(input: &mut [u8], line: &mut [u8], out: &mut [u8]) {
     while 0 < left {
         let run = next.run;
         let state = next.state;
-        next = turn(run, state, input, line, out);
+        next = turn(run, state, input, line, store, out);
         if next.over {
             return;
         }
@@ -216,6 +223,7 @@ fn read_all(input: &mut [u8], line: &mut [u8], out: &mut [u8]) {
 fn main() {
     let mut input = io::large_buffer();
     let mut line = io::buffer();
+    let mut store = io::buffer();
     let mut out = io::large_buffer();
-    read_all(&mut input, &mut line, &mut out);
+    read_all(&mut input, &mut line, &mut store, &mut out);
 }

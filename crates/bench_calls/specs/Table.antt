@@ -79,6 +79,18 @@ table =
     ∷ row "show_reply" 0x64_1_000_000_FFF
     ∷ row "settle_reply" 0x65_1_000_FFF_FFF
     ∷ row "item_reply" 0x66_2_001_001_FFF
+    -- The capture
+    ∷ row "capture_set" 0xC0_2_008_008_514
+    ∷ row "summary_set" 0xC1_1_03A_03A_FFF
+    ∷ row "mark_set" 0xC2_1_00D_00D_FFF
+    ∷ row "capture_empty" 0xC3_1_001_001_FFF
+    ∷ row "capture_append" 0xC4_2_004_004_FFF
+    ∷ row "capture_append_at" 0xC5_2_004_004_FFF
+    ∷ row "capture_open" 0xC6_1_000_000_FFF
+    ∷ row "capture_count" 0xC7_1_000_000_FFF
+    ∷ row "capture_prefix" 0xC8_1_000_000_FFF
+    ∷ row "capture_record" 0xC9_1_008_008_FFF
+    ∷ row "capture_show" 0xCA_1_000_000_FFF
     -- Help
     ∷ row "help" 0xB0_1_000_000_FFF
     ∷ []

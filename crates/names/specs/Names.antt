@@ -1,5 +1,5 @@
--- Names of numbers as text: of refusals ours, by document 01's table; of the rest source 002's own, in its order ("Commands", "TPI Advanced
--- Response", "Error Codes", "TPI Event Types"), less the ERROR_ and _EVENT that it puts to most of a kind.
+-- Names of numbers as text: of refusals ours, by document 01's table and document 02's requests; of the rest source 002's own, in its order
+-- ("Commands", "TPI Advanced Response", "Error Codes", "TPI Event Types"), less the ERROR_ and _EVENT that it puts to most of a kind.
 use Prim.Native.Nat.{ℕ, _+_, _*_}
 use Prim.Native.String.{String}
 use mathlib.Core.List.{List, [], _∷_}
@@ -28,6 +28,9 @@ table =
     ∷ row 0x0_0A "NOT_AWAITED"
     ∷ row 0x0_0B "BAD_DATA_SIZE"
     ∷ row 0x0_0C "NONE_THERE"
+    ∷ row 0x0_0E "UNKNOWN_VERSION"
+    ∷ row 0x0_0F "BAD_RECORD"
+    ∷ row 0x0_10 "EARLIER_TIME"
     -- 1: commands
     ∷ row 0x1_01 "QUERY_GROUP_LABEL"
     ∷ row 0x1_08 "ENABLE_TPI_EVENT_EMIT"

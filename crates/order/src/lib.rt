@@ -17,3 +17,10 @@ pub fn high_first_of_three(high: u8, middle: u8, low: u8) -> u32
 {
     ((high as u32) * 256 + (middle as u32)) * 256 + (low as u32)
 }
+
+// The number of four bytes, high byte first.
+pub fn high_first_of_four(high: u8, second: u8, third: u8, low: u8) -> u32
+    ensures { λ r. ⌜ r ≡ numberIn highFirst 4 (high ∷ second ∷ third ∷ low ∷ []) ⌝ }
+{
+    (((high as u32) * 256 + (second as u32)) * 256 + (third as u32)) * 256 + (low as u32)
+}

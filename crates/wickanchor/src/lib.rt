@@ -1,7 +1,8 @@
 // The codec for programs in C and Rust: `rt staticlib wickanchor` makes a static library of the functions below, for x86-64. A run of
-// bytes is a pointer and then a length; a result is a struct by value, laid out as C does. A refusal is its number by document 01, and
-// 0 stands for none; every other field of a refused call is 0. include/wickanchor.h declares them for C. Each function hands on what the
-// crate of its subject answers, as crates c_datagrams and c_values put it, and its contract cites that crate's definition.
+// bytes is a pointer and then a length; a result is a struct by value, laid out as C does. A refusal is its number by documents 01 and 02,
+// and 0 stands for none; every other field of a refused call is 0, but for a book, a mark and a summary that were handed in.
+// include/wickanchor.h declares them for C. Each function hands on what the crate of its subject answers, as crates c_datagrams, c_values
+// and c_capture put it, and its contract cites that crate's definition.
 ghost use mathlib.Core.Path.{_≡_};
 ghost use mathlib.Core.Bool.{not};
 ghost use mathlib.Core.List.{[]};
@@ -20,6 +21,8 @@ ghost use Rattle.event.specs.Writing.{eventFrame};
 ghost use Rattle.names.specs.Names.{nameOf as textOf};
 ghost use Rattle.maps.specs.Maps.{maskOf, scenesOf, gearOf, typesOf, countOf, lowestOf};
 ghost use Rattle.filters.specs.Filters.{filtersOf, entryOf};
+ghost use Rattle.summary.specs.Summary.{countedIn, counting};
+ghost use Rattle.capture.specs.Capture.{opened, counted, prefixed, found, nothingKept, entryAt};
 ghost use Rattle.book.specs.Book.{freshBook};
 ghost use Rattle.line.specs.Rule.{itemAt};
 ghost use Rattle.reader.specs.Reader.{hold};
@@ -31,6 +34,15 @@ ghost use Rattle.c_values.specs.Numbers.{flag, numberOut, lineOut, deviceOut};
 ghost use Rattle.c_values.specs.Filters.{filtersOut, filterOut};
 ghost use Rattle.c_values.specs.Books.{bookIn, bookOut, askedOut, repliedOut};
 ghost use Rattle.c_values.specs.Lines.{lineBy, readerIn, readerOut, fedOut, closedOut, positionOut};
+ghost use Rattle.c_capture.specs.Captures.{summaryIn, markIn, foundOut, openedOut, countedOut, EmptiesOut, AppendsAtOut, AppendsOut};
+ghost use Rattle.c_capture.specs.Records.{recordOut};
+use c_capture::WickAppended;
+use c_capture::WickCapture;
+use c_capture::WickCounted;
+use c_capture::WickMark;
+use c_capture::WickOpened;
+use c_capture::WickRecord;
+use c_capture::WickSummary;
 use c_datagrams::WickAddress;
 use c_datagrams::WickAim;
 use c_datagrams::WickCode;
@@ -421,4 +433,84 @@ pub extern "C" fn wick_item_at(on: u8, closed: u8, s: &[u8]) -> WickItem
     ensures { λ w. ⌜ w ≡ positionOut (itemAt (lineBy on) (not (eqb closed 0)) (now (s .entry))) ⌝ }
 {
     c_values::item_out(line::item_at(c_values::line_by(on), closed != 0, s))
+}
+
+// Empties a capture.
+#[no_mangle]
+pub extern "C" fn wick_capture_empty(version: u8, buf: &mut [u8]) -> WickCapture
+    ensures { λ w. ⌜ EmptiesOut (now (buf .entry)) version w (now (buf .exit)) ⌝ }
+{
+    c_capture::found_out(append::empty(buf, version))
+}
+
+// Appends an event to a capture by the letter.
+#[no_mangle]
+pub extern "C" fn wick_capture_append(
+    buf: &mut [u8],
+    used: usize,
+    summary: WickSummary,
+    seconds: u32,
+    datagram: &[u8],
+) -> WickAppended
+    ensures { λ w. ⌜ AppendsOut (now (buf .entry)) used (summaryIn summary) seconds (now (datagram .entry)) w (now (buf .exit)) ⌝ }
+{
+    c_capture::appended_out(append::append(
+        buf,
+        used,
+        c_capture::summary_in(summary),
+        seconds,
+        datagram,
+    ))
+}
+
+// Appends an event to a capture by a mark.
+#[no_mangle]
+pub extern "C" fn wick_capture_append_at(
+    buf: &mut [u8],
+    mark: WickMark,
+    summary: WickSummary,
+    seconds: u32,
+    datagram: &[u8],
+) -> WickCapture
+    ensures { λ w. ⌜ AppendsAtOut (now (buf .entry)) (markIn mark) (summaryIn summary) seconds (now (datagram .entry)) w (now (buf .exit)) ⌝ }
+{
+    c_capture::found_out(append::append_at(
+        buf,
+        c_capture::mark_in(mark),
+        c_capture::summary_in(summary),
+        seconds,
+        datagram,
+    ))
+}
+
+// Opens a capture: its mark.
+#[no_mangle]
+pub extern "C" fn wick_capture_open(buf: &[u8], used: usize) -> WickOpened
+    ensures { λ w. ⌜ w ≡ openedOut (opened (now (buf .entry)) used) ⌝ }
+{
+    c_capture::opened_out(capture::open(buf, used))
+}
+
+// Counts a capture afresh.
+#[no_mangle]
+pub extern "C" fn wick_capture_count(buf: &[u8], used: usize) -> WickCounted
+    ensures { λ w. ⌜ w ≡ countedOut (counting (counted (now (buf .entry)) used) (countedIn [])) ⌝ }
+{
+    c_capture::counted_out(capture::count(buf, used))
+}
+
+// The longest good capture at the front of the bytes in use.
+#[no_mangle]
+pub extern "C" fn wick_capture_prefix(buf: &[u8], used: usize) -> WickCapture
+    ensures { λ w. ⌜ w ≡ foundOut (found (prefixed (now (buf .entry)) used) nothingKept) ⌝ }
+{
+    c_capture::found_out(capture::prefix(buf, used))
+}
+
+// The record that begins at a place of a capture.
+#[no_mangle]
+pub extern "C" fn wick_capture_record(buf: &[u8], used: usize, place: usize) -> WickRecord
+    ensures { λ w. ⌜ w ≡ recordOut place (entryAt (now (buf .entry)) used place) ⌝ }
+{
+    c_capture::record_out(place, capture::step(buf, used, place))
 }

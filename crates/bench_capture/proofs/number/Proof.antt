@@ -1,0 +1,19 @@
+use Rattle.bench_say.specs.Laws.{puts-next, puts-none}
+use borrow.Author.Needs.{needs}
+use Rattle.bench_capture.proofs.number.Statement.{statement}
+use Rattle.bench_capture.proofs.number.Tie as tie
+
+byte-requires : tie.Need-byte-requires
+byte-requires c κs = search needs
+
+decimal-requires : tie.Need-decimal-requires
+decimal-requires c κs = search needs
+
+same-length : tie.Need-same-length
+same-length c = search needs
+
+returns : tie.Need-returns
+returns c = search (puts-next, puts-none, needs)
+
+pub number-spec : {M : Type 1} → statement M
+number-spec = tie.close (tie.spec byte-requires decimal-requires same-length returns)

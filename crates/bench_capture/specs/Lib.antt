@@ -1,0 +1,5 @@
+-- what the contracts cite
+pub mod Carried
+pub mod Told
+-- what only serves proofs
+pub mod Pieces
