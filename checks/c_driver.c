@@ -459,8 +459,7 @@ static void mark_set(void) {
 }
 
 /* Mark and summary that a call hands over are carried on, beside the bytes in use */
-static int carried(struct wick_capture r, struct wick_mark m, struct wick_summary x) {
-    printf("%u", r.refusal);
+static int carry_at(struct wick_capture r, struct wick_mark m, struct wick_summary x) {
     if (r.refusal) {
         same_mark(r.mark, m);
         same_summary(r.summary, x);
@@ -475,11 +474,13 @@ static int carried(struct wick_capture r, struct wick_mark m, struct wick_summar
     return 1;
 }
 
-static void capture_empty(void) { carried(wick_capture_empty(g[0].bytes[0], kept.bytes, kept.n), no_mark, no_summary); }
-
-static void capture_append(void) {
-    struct wick_appended r = wick_capture_append(kept.bytes, kept.n, used, summary, four(g[0].bytes), g[1].bytes, g[1].n);
+static int carried(struct wick_capture r, struct wick_mark m, struct wick_summary x) {
     printf("%u", r.refusal);
+    return carry_at(r, m, x);
+}
+
+/* Bytes in use and summary, by the letter */
+static void carry(struct wick_appended r) {
     if (r.refusal) {
         if (r.used != used) printf(" NOT THE SAME");
         same_summary(r.summary, summary);
@@ -491,8 +492,39 @@ static void capture_append(void) {
     number("used", used);
 }
 
+/* How many datagrams of a run went in, and how many were refused */
+static void ran(uint8_t refusal, uint64_t entered, uint64_t refused) {
+    printf("%u", refusal);
+    if (!refusal) {
+        number("in", entered);
+        number("refused", refused);
+    } else if (entered || refused) {
+        printf(" NOT 0");
+    }
+}
+
+static void capture_empty(void) { carried(wick_capture_empty(g[0].bytes[0], kept.bytes, kept.n), no_mark, no_summary); }
+
+static void capture_append(void) {
+    struct wick_appended r = wick_capture_append(kept.bytes, kept.n, used, summary, four(g[0].bytes), g[1].bytes, g[1].n);
+    printf("%u", r.refusal);
+    carry(r);
+}
+
 static void capture_append_at(void) {
     carried(wick_capture_append_at(kept.bytes, kept.n, mark, summary, four(g[0].bytes), g[1].bytes, g[1].n), mark, summary);
+}
+
+static void capture_run(void) {
+    struct wick_ran r = wick_capture_run(kept.bytes, kept.n, used, summary, four(g[0].bytes), g[1].bytes, g[1].n);
+    ran(r.refusal, r.entered, r.refused);
+    carry((struct wick_appended){r.refusal, r.used, r.summary});
+}
+
+static void capture_run_at(void) {
+    struct wick_ran_at r = wick_capture_run_at(kept.bytes, kept.n, mark, summary, four(g[0].bytes), g[1].bytes, g[1].n);
+    ran(r.refusal, r.entered, r.refused);
+    carry_at((struct wick_capture){r.refusal, r.mark, r.summary}, mark, summary);
 }
 
 static void capture_open(void) {
@@ -556,7 +588,7 @@ static const struct {
     CALL(fresh_request), CALL(fresh_reply), CALL(hold_request), CALL(hold_reply), CALL(feed_request), CALL(feed_reply),
     CALL(close_request), CALL(close_reply), CALL(show_request), CALL(show_reply), CALL(item_request), CALL(item_reply),
     CALL(capture_set), CALL(summary_set), CALL(mark_set), CALL(capture_empty), CALL(capture_append), CALL(capture_append_at),
-    CALL(capture_open), CALL(capture_count), CALL(capture_prefix), CALL(capture_record), CALL(capture_show),
+    CALL(capture_run), CALL(capture_run_at), CALL(capture_open), CALL(capture_count), CALL(capture_prefix), CALL(capture_record), CALL(capture_show),
 };
 #define CALLS (sizeof calls / sizeof *calls)
 

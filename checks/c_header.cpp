@@ -1,5 +1,5 @@
 // The header in C++: it compiles, its functions link, the scenes that it names are the last that requests take, the sizes and targets
-// that it names for each layout of events are the ends of theirs, and captures are as it says.
+// that it names for each layout of events are the ends of theirs, and captures and runs of datagrams are as it says.
 #include "wickanchor.h"
 
 // What writing a request with these arguments is refused with.
@@ -57,12 +57,31 @@ static bool captures(const layout &l, uint8_t version, uint64_t most) {
         && wick_capture_empty(WICK_CAPTURE_TWO + 1, buf, sizeof buf).refusal == WICK_UNKNOWN_VERSION;
 }
 
+// A run of the longest event and of a length 0: the one goes in, the other is refused, by a mark and by the letter. Without its last byte it
+// is refused whole.
+static bool runs(const layout &l, uint8_t version, uint64_t most) {
+    const struct wick_mac mac = {{0x7C, 0xBA, 0xCC, 0x2F, 0x40, 0x2E}};
+    const uint8_t data[WICK_EVENT_DATA_MOST] = {};
+    uint8_t run[2 * WICK_RUN_DATAGRAM_AT + WICK_EVENT_MOST] = {}, buf[WICK_CAPTURE_RECORDS_AT + 2 * WICK_RECORD_MOST];
+    const uint64_t n = l.write(mac, l.target, 10, data, sizeof data, run + WICK_RUN_DATAGRAM_AT, WICK_EVENT_MOST).count;
+    const uint64_t length = n + 2 * WICK_RUN_DATAGRAM_AT;
+    run[WICK_RUN_DATAGRAM_AT - 1] = uint8_t(n);
+    const struct wick_capture e = wick_capture_empty(version, buf, sizeof buf);
+    const struct wick_ran_at a = wick_capture_run_at(buf, sizeof buf, e.mark, e.summary, 7, run, length);
+    const struct wick_ran b = wick_capture_run(buf, sizeof buf, a.mark.used, a.summary, 7, run, length);
+    return a.refusal == WICK_OK && a.entered == 1 && a.refused == 1 && a.mark.used == WICK_CAPTURE_RECORDS_AT + most && a.mark.has_last
+        && a.mark.last == 7 && a.summary.records == 1
+        && b.refusal == WICK_OK && b.entered == 1 && b.refused == 1 && b.used == a.mark.used + most && b.summary.records == 2
+        && wick_capture_run_at(buf, sizeof buf, a.mark, a.summary, 7, run, length - 1).refusal == WICK_BAD_RECORD;
+}
+
 static bool layouts() {
     const layout three = {wick_event, wick_write_event, WICK_EVENT_LEAST, WICK_EVENT_MOST, WICK_EVENT_DATA_AT, WICK_EVENT_TARGET_MOST};
     const layout two = {wick_event_two, wick_write_event_two, WICK_EVENT_TWO_LEAST, WICK_EVENT_TWO_MOST, WICK_EVENT_TWO_DATA_AT,
                         WICK_EVENT_TWO_TARGET_MOST};
     return events(three) && events(two) && captures(three, WICK_CAPTURE_THREE, WICK_RECORD_MOST)
-        && captures(two, WICK_CAPTURE_TWO, WICK_RECORD_TWO_MOST);
+        && captures(two, WICK_CAPTURE_TWO, WICK_RECORD_TWO_MOST) && runs(three, WICK_CAPTURE_THREE, WICK_RECORD_MOST)
+        && runs(two, WICK_CAPTURE_TWO, WICK_RECORD_TWO_MOST);
 }
 
 int main() {

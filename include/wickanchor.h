@@ -8,9 +8,9 @@
    - Nothing is asked of the bytes, numbers and structs that are handed in. Functions keep nothing between calls, and may run at once.
 
    `refusal` is 0 where a call is not refused; then the fields count. Else it is one of enum wick_refusal, and all other fields are 0 (but
-   for a book, and for mark, summary and bytes in use of an append, which are handed back as they were). The lowest number that applies is
-   given; calls of a capture give the first in the order in which their refusals stand below. A refused writer writes no byte; one that is not
-   refused writes `count` bytes, and leaves those behind them. */
+   for a book, and for mark, summary and bytes in use of an append or of a run of datagrams, which are handed back as they were). The lowest
+   number that applies is given; calls of a capture give the first in the order in which their refusals stand below. A refused writer writes
+   no byte; one that is not refused writes `count` bytes, and leaves those behind them. */
 #ifndef WICKANCHOR_H
 #define WICKANCHOR_H
 
@@ -18,8 +18,9 @@
 
 /* Grows with each change of what is declared here, or of what the functions answer. 2: wick_name; names as text were a header of their own.
    3: command A1 takes scenes 13 to 15 (W-201). 4: events whose target has two bytes (W-206): wick_event_two, wick_write_event_two,
-   wick_relay_event_two. 5: captures (W-207): the functions whose names begin with wick_capture, and refusals 14 to 16, which have names. */
-#define WICKANCHOR_VERSION 5
+   wick_relay_event_two. 5: captures (W-207): the functions whose names begin with wick_capture, and refusals 14 to 16, which have names.
+   6: runs of datagrams (W-208): wick_capture_run, wick_capture_run_at. */
+#define WICKANCHOR_VERSION 6
 
 #ifdef __cplusplus
 extern "C" {
@@ -49,12 +50,13 @@ extern "C" {
 #define WICK_NAME_MOST 33
 
 /* Of captures: where the first record begins, the bytes of a record in front of its datagram, the most bytes of a record in each layout of
-   events, and how many counts a summary has */
+   events, how many counts a summary has, and the bytes in front of each datagram of a run */
 #define WICK_CAPTURE_RECORDS_AT 1
 #define WICK_RECORD_DATAGRAM_AT 6
 #define WICK_RECORD_MOST 68
 #define WICK_RECORD_TWO_MOST 67
 #define WICK_COUNTS 11
+#define WICK_RUN_DATAGRAM_AT 2
 
 /* The last scene of WICK_DALI_SCENE, which takes all that DALI has, and of WICK_QUERY_SCENE_LABEL_FOR_GROUP */
 #define WICK_DALI_SCENE_MOST 15
@@ -80,7 +82,8 @@ enum wick_refusal {
     WICK_NONE_THERE = 12,           /* lowest of an empty map; no such filter entry; no record behind the last */
     WICK_UNKNOWN_VERSION = 14,      /* of a capture */
     WICK_BAD_RECORD = 15,           /* cut short, of length under 4, of seconds below the one before, or whose datagram its layout refuses;
-                                       also a capture of no version byte, or with more bytes in use than there are */
+                                       also a capture of no version byte, or with more bytes in use than there are; also a run of
+                                       datagrams that is cut short */
     WICK_EARLIER_TIME = 16          /* seconds lower than the last record's */
 };
 
@@ -340,6 +343,20 @@ struct wick_appended {
     struct wick_summary summary;    /* afterwards */
 };
 
+struct wick_ran {
+    uint8_t refusal;
+    uint64_t entered, refused;      /* how many datagrams went in, and how many were refused */
+    uint64_t used;                  /* afterwards */
+    struct wick_summary summary;    /* afterwards */
+};
+
+struct wick_ran_at {
+    uint8_t refusal;
+    uint64_t entered, refused;      /* how many datagrams went in, and how many were refused */
+    struct wick_mark mark;          /* afterwards */
+    struct wick_summary summary;    /* afterwards */
+};
+
 struct wick_opened {
     uint8_t refusal;
     struct wick_mark mark;
@@ -378,6 +395,8 @@ WICK_SIZE(struct wick_summary, 60);
 WICK_SIZE(struct wick_mark, 16);
 WICK_SIZE(struct wick_capture, 88);
 WICK_SIZE(struct wick_appended, 80);
+WICK_SIZE(struct wick_ran, 96);
+WICK_SIZE(struct wick_ran_at, 104);
 WICK_SIZE(struct wick_opened, 24);
 WICK_SIZE(struct wick_counted, 64);
 WICK_SIZE(struct wick_record, 32);
@@ -488,9 +507,9 @@ struct wick_item wick_item_at(uint8_t line, uint8_t closed, const uint8_t *bytes
 
    How a year is kept. A capture begins with wick_capture_empty. Each event goes in with wick_capture_append_at and the mark and the summary
    that the call before handed back; as long as nothing else writes the bytes in use, that answers what wick_capture_append answers, which
-   walks the whole capture each time. Nothing but the bytes has to outlive the program: wick_capture_prefix finds mark and summary again, also
-   where a write was torn, and loses only what was torn; what it lost are the bytes behind its mark. examples/capture.c does all this with a
-   file. */
+   walks the whole capture each time. Events that were collected go in together, with wick_capture_run_at. Nothing but the bytes has to outlive
+   the program: wick_capture_prefix finds mark and summary again, also where a write was torn, and loses only what was torn; what it lost are
+   the bytes behind its mark. examples/capture.c does all this with a file. */
 
 /* Empties a capture: writes the version byte, one of enum wick_capture_version, and no other. Refusals 8 (a buffer of no bytes), 14. */
 struct wick_capture wick_capture_empty(uint8_t version, uint8_t *buf, uint64_t room);
@@ -506,6 +525,20 @@ struct wick_appended wick_capture_append(uint8_t *buf, uint64_t room, uint64_t u
                                          const uint8_t *datagram, uint64_t n);
 struct wick_capture wick_capture_append_at(uint8_t *buf, uint64_t room, struct wick_mark mark, struct wick_summary summary, uint32_t seconds,
                                            const uint8_t *datagram, uint64_t n);
+
+/* Appends a run of datagrams, all under these seconds. In front of each stands its length in two bytes, high byte first, which counts the
+   datagram only; `length` counts all bytes of the run. Bytes, summary, and bytes in use (or mark) end as if each had been appended singly, in
+   their order, by the call above that judges the capture alike. A datagram that would be refused there (as an event, with 16, or with 8) is
+   passed over and only counts in `refused`: the call goes on, and one behind it may still go in. A length of 0 is an empty datagram, which is
+   refused and counted. An empty run gives 0 and 0. A mark's seconds become these where at least one datagram went in, and stay otherwise.
+   Refusals 14, 15 of the capture; then 15 where the run ends inside a length, or where its last length reaches past its end. Both are judged
+   before anything is appended: no byte is written then, `entered` and `refused` are 0, and bytes in use (or mark) and summary are those handed
+   in. `run` and `buf` must not overlap.
+   The first walks the whole capture, once for the run. The second, by a mark, looks at no record: its time does not depend on the capture. */
+struct wick_ran wick_capture_run(uint8_t *buf, uint64_t room, uint64_t used, struct wick_summary summary, uint32_t seconds,
+                                 const uint8_t *run, uint64_t length);
+struct wick_ran_at wick_capture_run_at(uint8_t *buf, uint64_t room, struct wick_mark mark, struct wick_summary summary, uint32_t seconds,
+                                       const uint8_t *run, uint64_t length);
 
 /* Opens a capture: walks it once, and hands out its mark. Refusals 14, 15. */
 struct wick_opened wick_capture_open(const uint8_t *buf, uint64_t room, uint64_t used);

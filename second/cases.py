@@ -1348,6 +1348,370 @@ def captures():
         yield from part
 
 
+# W-208: a morning's datagrams in one call, and both ways of appending them
+
+def led(datagrams):
+    """A run: each datagram behind its length."""
+    return b"".join(wide(len(datagram), 2) + datagram for datagram in datagrams)
+
+
+def append_run(seconds, run):
+    return call("capture_run", wide(seconds, 4), run)
+
+
+def append_run_at(seconds, run):
+    return call("capture_run_at", wide(seconds, 4), run)
+
+
+# With each way of appending a run, the way of appending one datagram.
+RUN_WAYS = [(append_run, append), (append_run_at, append_at)]
+RUNS = [way for way, _ in RUN_WAYS]
+
+
+def capture_handed_in(run, room, last):
+    """A good capture in a buffer with room behind it, and its mark."""
+    return [capture_set(len(run), spare(run, room)), mark_set(len(run), last)]
+
+
+def fresh_capture(version, size):
+    return [capture_set(0, pattern(size)), capture_empty(version)]
+
+
+# Runs that are whole
+
+def mixed_runs():
+    """No datagram, one and more; each refused one, the other layout's and the empty one, alone, first, last, between and twice."""
+    for version, width in VERSIONS:
+        goods = small_events(width)
+        for way in RUNS:
+            yield from fresh_capture(version, 330) + [SOME_SUMMARY]
+            for count in range(4):
+                yield from [way(TIMES[0], led(goods[:count])), "capture_show"]
+            for bad in refused_datagrams(width) + [other_layout(width), b""]:
+                yield from fresh_capture(version, 110)
+                for datagrams in [[bad], [bad, goods[0]], [goods[1], bad, bad], [goods[2], bad, goods[0]]]:
+                    yield way(TIMES[0], led(datagrams))
+                yield "capture_show"
+            # every refusal in one run, good ones between; then lengths 0 only
+            several = [datagram for bad in refused_datagrams(width) + [b""] for datagram in [bad, goods[0]]]
+            yield from fresh_capture(version, 200) + [way(TIMES[0], led(several)), "capture_show"]
+            for count in [1, 2, 3, 200]:
+                yield way(TIMES[0], led([b""] * count))
+            yield from ["capture_show", "capture_count", "capture_open"]
+            # frames of both layouts, which have another type in each, and every type in one run
+            yield from fresh_capture(version, 250) + [way(TIMES[0], led(BOTH + LONG_BOTH)), "capture_show"]
+            types = [event(1, type_, bytes([4]), width) for type_ in list(range(13)) + [127, 255]]
+            yield from fresh_capture(version, 350) + [way(0, led(types)), "capture_show", "capture_count"]
+
+
+def great_lengths():
+    """Datagrams longer than any layout takes, most of 255 bytes or more: alone, before and behind a good one, with good ones inside."""
+    for number, size in enumerate([63, 128, 255, 256, 257, 512, 1290]):
+        version, width = VERSIONS[number % 2]
+        good = event(59, 3, b"", width)
+        head = b"\x5A\x43" + MAC + wide(59, width) + bytes([3, size % 49])
+        begun = summed((head + pattern(size))[:size - 1])
+        inside = (led([good]) * (size // (len(good) + 2) + 1))[:size]
+        for way in RUNS:
+            yield from fresh_capture(version, 100)
+            for datagrams in [[begun], [begun, good], [good, inside], [pattern(size), good]]:
+                yield way(5, led(datagrams))
+            yield "capture_show"
+
+
+def low_first():
+    """Lengths low byte first, which reach past the end or lead other parts: 256 low byte first is 1."""
+    for version, width in VERSIONS:
+        good = event(59, 3, b"", width)
+        backward = bytes([len(good), 0]) + good
+        yield from capture_handed_in(small_capture(version, width, 1), 60, TIMES[0])
+        for run in [backward, led([good]) + backward, backward + led([good]), backward + bytes(600), b"\x00\x01" + bytes(256),
+                    b"\x01\x00" + bytes(256), b"\x00\x02" + bytes(512), b"\x01\x00" + bytes(255)]:
+            yield from [way(TIMES[0], run) for way in RUNS]
+        yield "capture_show"
+
+
+# Runs that are refused whole
+
+def cut_runs():
+    """Runs cut after every byte, of good datagrams alone and with refused and empty ones; shown where a cut leaves a whole run."""
+    for number, way in enumerate(RUNS + RUNS[::-1]):
+        version, width = VERSIONS[number % 2]
+        goods = small_events(width)
+        datagrams = goods if number < 2 else [b"", refused_datagrams(width)[4], b"", goods[0], b""]
+        run = led(datagrams)
+        ends = [len(led(datagrams[:count])) for count in range(len(datagrams) + 1)]
+        yield from capture_handed_in(small_capture(version, width, 1), 150, TIMES[0]) + [SOME_SUMMARY]
+        for size in range(len(run) + 1):
+            yield way(TIMES[1], run[:size])
+            if size in ends:
+                yield "capture_show"
+
+
+def wrong_ends():
+    """Bytes behind a whole run: part of a length, lengths with too few bytes behind them, and lengths 0."""
+    for version, width in VERSIONS:
+        goods = small_events(width)
+        for way in RUNS:
+            yield from fresh_capture(version, 190)
+            for end in [b"\x00", b"\x01", b"\xFF", b"\x00\x01", b"\x00\x02\x5A", b"\x01\x00", b"\x80\x00", b"\xFF\xFF" + goods[0],
+                        b"\x00\x00", b"\x00\x00\x00", b"\x00\x01\x5A", b"\x00\x00\x00\x00"]:
+                yield from [way(TIMES[0], end), way(TIMES[0], led(goods[:1]) + end)]
+            yield "capture_show"
+
+
+def wrong_lengths():
+    """Each length of three, one too great and one too small, twice as great, and with a high byte; and lengths whose wrong end still leaves
+    a whole run."""
+    for version, width in VERSIONS:
+        goods = small_events(width)
+        yield from capture_handed_in(small_capture(version, width, 1), 200, TIMES[0])
+        for place in range(3):
+            before, behind = led(goods[:place]), led(goods[place + 1:])
+            length = len(goods[place])
+            for wrong in [length - 1, length + 1, 2 * length, 0, 1, length + 256, 0x8000, 0xFFFF]:
+                run = before + wide(wrong, 2) + goods[place] + behind
+                yield from [way(TIMES[0], run) for way in RUNS]
+            # a length that leads all that follows
+            run = before + wide(length + len(behind), 2) + goods[place] + behind
+            yield from [way(TIMES[0], run) for way in RUNS] + ["capture_show"]
+        # a sum of 00 is the first byte of the length behind a datagram that was led by one byte too few
+        nought = event(59, 3, bytes([event(59, 3, bytes(1), width)[-1]]), width)
+        short = wide(len(nought) - 1, 2) + nought
+        longer = led([nought + b"\x00"])
+        for run in [short, short + b"\x00", short + b"\x01\x5A", short + b"\x00" + led(goods[:1]), short + led(goods[:1])[1:],
+                    longer, longer + led(goods[:1]), longer[:-1] + led(goods[:1])]:
+            yield from [way(TIMES[0], run) for way in RUNS]
+        yield "capture_show"
+
+
+# Runs over captures of every kind
+
+def judged_runs(used, buffer, width):
+    """A capture handed in, its bytes in use also as a mark: a run, none, and one that is not whole, by the letter and from the mark."""
+    whole = led([b""] + small_events(width)[:1])
+    yield from [capture_set(used, buffer), mark_set(used, None)]
+    yield from [append_run(COUNT_MOST, run) for run in [whole, b"", whole[:-1]]]
+    yield from [append_run_at(COUNT_MOST, run) for run in [whole[:-1], b"", whole]] + ["capture_show"]
+
+
+def runs_over_claims():
+    """No buffer, none in use, unknown versions, more in use than there is; with whole runs and with runs that are not."""
+    yield SOME_SUMMARY
+    for used in [0, 1, 2 ** 63, USE_MOST]:
+        yield from judged_runs(used, b"", 3)
+    for version, width in VERSIONS + [(version, 3) for version in UNKNOWN_VERSIONS]:
+        run = small_capture(version, width, 1)
+        buffer = spare(run, 25)
+        for used in [0, len(run), len(buffer) + 1, USE_MOST] + ([1, len(buffer)] if version in [1, 2] else []):
+            yield from judged_runs(used, buffer, width)
+
+
+def runs_over_bad_records():
+    """Captures with a bad record; by the letter every run is refused, from a mark behind it whole ones are not."""
+    yield SOME_SUMMARY
+    for version, width in VERSIONS:
+        whole = led(small_events(width)[:1])
+        for number, bad in enumerate(bad_records(width, TIMES[1], TIMES[0])):
+            run = small_capture(version, width, 1) + bad
+            used = len(run)
+            if number % 3 == 0:
+                run += small_records(width)[1]
+            for first in [version] if number % 5 else [version, UNKNOWN_VERSIONS[number // 5 % 3]]:
+                yield from [capture_set(len(run), bytes([first]) + spare(run[1:], 30)), mark_set(used, TIMES[1])]
+                yield from [append_run(COUNT_MOST, given) for given in [whole, [b"", whole[:-1]][number % 2]]]
+                yield from [append_run_at(TIMES[2], given) for given in [whole + b"\x00", whole]] + ["capture_show"]
+
+
+# Times, room, counts
+
+def times_of_runs():
+    """One time below, at and above the last record's; over an empty capture; and runs one behind the other."""
+    for version, width in VERSIONS:
+        run = small_capture(version, width, 2)
+        given = led([event(59, 3, b"", width), b"", event(1, 9, bytes([1]), width)])
+        for way in RUNS:
+            for seconds in [TIMES[1] - 1, TIMES[1], TIMES[1] + 1, COUNT_MOST]:
+                yield from capture_handed_in(run, 60, TIMES[1]) + [way(seconds, given), "capture_show"]
+            for seconds in [0, COUNT_MOST]:
+                yield from fresh_capture(version, 60) + [way(seconds, given), way(COUNT_MOST - seconds, given), "capture_show"]
+            yield from fresh_capture(version, 300)
+            yield from [way(seconds, given) for seconds in [7, 7, 6, 9, 8, 0, 9]] + ["capture_show", "capture_count"]
+
+
+def some_data(width):
+    """Events whose records have three sizes, none of them the sum of two others."""
+    return [event(59, 3, pattern(n), width) for n in [30, 5, 0]]
+
+
+def rooms_for_runs():
+    """Rooms about the size of each choice among three records, the longest first and the shortest first."""
+    for number, (version, width) in enumerate(VERSIONS + VERSIONS):
+        datagrams = some_data(width) if number < 2 else some_data(width)[::-1]
+        sizes = set(sum(len(record(0, datagram)) for datagram in choice) for choice in subsets(datagrams))
+        rooms = sorted(set(size - short for size in sizes for short in [0, 1] if size >= short) | {1, max(sizes) + 1})
+        for room in rooms if number < 2 else rooms[::3]:
+            yield from capture_handed_in(small_capture(version, width, 1), room, TIMES[0])
+            yield from [RUNS[number % 2](TIMES[1], led(datagrams)), "capture_show"]
+    # room for none, for one and for some of many that are alike, refused ones between them
+    for version, width in VERSIONS:
+        good = event(59, 3, b"", width)
+        size = len(record(0, good))
+        for way in RUNS:
+            for room in [size - 1, size, 3 * size - 1, 3 * size]:
+                yield from capture_handed_in(bytes([version]), room, None)
+                yield from [way(TIMES[1], led([good, event(59, 3, pattern(48), width), good, b"", good, good])), "capture_show"]
+
+
+def full_counts_of_runs():
+    """The number of records and each count at its end and one below it; a run of that type, of another, and of that type again."""
+    for place in range(12):
+        version, width = VERSIONS[place % 2]
+        run = small_capture(version, width, 1)
+        own, other = (255 if place == 11 else max(place - 1, 0)), place % 10
+        given = led([event(1, type_, bytes([1]), width) for type_ in [own, other, own, other, own]])
+        for way, most in [(append_run, COUNT_MOST), (append_run_at, COUNT_MOST), (RUNS[place // 2 % 2], COUNT_MOST - 1)]:
+            numbers = replaced_number([7, 0, 1, 2, 3, 4, 5, 6, 7, 8, 9, 10], place, most)
+            yield from capture_handed_in(run, 110, TIMES[0]) + [summary_set(numbers[0], None, TIMES[1], numbers[1:])]
+            yield from [way(TIMES[2], given), "capture_show"]
+
+
+def summaries_of_runs():
+    """Summaries whose two times are there or not, which do not belong to the records; runs of which none, one and two go in."""
+    for version, width in VERSIONS:
+        for first in [None, COUNT_MOST]:
+            for last in [None, 9]:
+                yield from capture_handed_in(bytes([version]), 90, None) + [summary_set(1, first, last, SOME_COUNTS)]
+                yield from [way(count, led([b""] + small_events(width)[:count])) for count in range(3) for way in RUNS[::-1]]
+                yield "capture_show"
+
+
+# Marks
+
+def marks_for_runs():
+    """Marks of every kind: runs of which none goes in, so that bytes in use become the mark's and its last stays, and then some that do."""
+    for version, width in VERSIONS:
+        run = small_capture(version, width, 2)
+        buffer = spare(run, 50)
+        goods = small_events(width)[:2]
+        size = len(led(goods)) + 8
+        places = [0, 2, len(run) + 1, len(buffer) - size, len(buffer) - size + 1, len(buffer), len(buffer) + 1, USE_MOST]
+        none_goes_in = [b"", led([b""]), led(refused_datagrams(width))]
+        for number, (used, last) in enumerate([(used, last) for used in places for last in [None, TIMES[1] + 1][:3 - version]]
+                                              + [(len(run), last) for last in [None, 0, TIMES[1], TIMES[1] + 1, COUNT_MOST]]):
+            yield from [capture_set(len(run), buffer), mark_set(used, last)]
+            yield from [append_run_at(TIMES[1], none_goes_in[number % 3]), "capture_show"]
+            yield from [append_run_at(TIMES[1], led([goods[0], b"", goods[1]])), "capture_show"]
+    for first in UNKNOWN_VERSIONS + [1, 2]:
+        for used in [0, 1, 60, 61]:
+            yield from [capture_set(USE_MOST, bytes([first]) + b"\xFF" * 59), mark_set(used, None)]
+            yield from [append_run_at(0, run) for run in [b"\x00", led([event(1, 9, b"", 3), event(1, 9, b"", 2)])]] + ["capture_show"]
+
+
+def stale_marks_of_runs():
+    """Marks that a run by the letter leaves behind: then runs from them, single ones, opened afresh, and the prefix."""
+    for version, width in VERSIONS:
+        goods = small_events(width)
+        whole, mixed = led(goods), led([goods[0], b"", other_layout(width), goods[1]])
+        yield from fresh_capture(version, 260) + [append_run(10, mixed), "capture_show", append_run_at(20, b""), "capture_show"]
+        yield from [append_run(10, mixed), "capture_open", append_run_at(20, mixed), "capture_show", append_run(20, mixed), "capture_show"]
+        yield from [append_run_at(19, mixed), "capture_show", "capture_count", append_run_at(25, whole), "capture_show", "capture_count"]
+        yield from [append_run(24, whole), append_run(25, led(goods[:1])), "capture_show", append_at(25, goods[0]), "capture_show"]
+        yield from [append(26, goods[1]), append_run_at(26, mixed), "capture_show", "capture_prefix", "capture_show"]
+        yield from [mark_set(5, None), append_run_at(0, mixed), "capture_show", append_run(99, whole), append_run(99, b"")]
+        yield from ["capture_open", "capture_prefix", append_run(99, whole), "capture_show", "capture_count"]
+        run = small_capture(version, width)
+        yield from [capture_set(len(run), spare(run, 60)), "capture_open", capture_set(1, bytes([3 - version]) + spare(run[1:], 60))]
+        yield from [append_run_at(COUNT_MOST, led(goods + [other_layout(width)])), "capture_show"]
+
+
+# Whole mornings
+
+def some_datagrams(chance, width, count):
+    """Datagrams, most of them good, some empty."""
+    for _ in range(count):
+        good = some_event(chance, width)
+        bad = chance.pick([damaged_frame(chance, good), resummed(damaged_frame(chance, good)), good[:chance.below(len(good))], b"",
+                           some_event(chance, 5 - width), event(1, chance.pick([0, 1, 2, 6, 7]), b"", width), chance.run(chance.below(80))])
+        yield bad if chance.one_in(3) else good
+
+
+def parted(datagrams, chance):
+    """The datagrams in parts, one behind the other; the first has some, others may have none."""
+    places = sorted(1 + chance.below(len(datagrams)) for _ in range(chance.below(5)))
+    return [datagrams[first:last] for first, last in zip([0] + places, places + [len(datagrams)])]
+
+
+def singly_and_at_once():
+    """The same datagrams singly and in one call or several, both ways, from an empty capture."""
+    chance = Chance(11)
+    for number in range(8):
+        version, width = VERSIONS[number % 2]
+        size = chance.pick([60, 150, 400])
+        parts = parted(list(some_datagrams(chance, width, 4 + chance.below(8))), chance)
+        times = [chance.below(1000) for _ in parts] if chance.one_in(3) else sorted(chance.below(1000) for _ in parts)
+        for way, single in RUN_WAYS:
+            yield from fresh_capture(version, size)
+            yield from [single(seconds, datagram) for seconds, part in zip(times, parts) for datagram in part] + ["capture_show"]
+            yield from fresh_capture(version, size)
+            yield from [way(seconds, led(part)) for seconds, part in zip(times, parts)] + ["capture_show"]
+
+
+def damaged_run(chance, run):
+    """The run with another byte somewhere, a byte more, or cut."""
+    place = chance.below(len(run) + 1)
+    return chance.pick([run[:place] + chance.run(1) + run[place + 1:], run[:place] + chance.run(1) + run[place:], run[:place],
+                        run[:place] + b"\x00\x00" + run[place:], run[:place] + run[place + 1:]])
+
+
+def mornings():
+    """Runs by chance on what is carried: whole, damaged and of any bytes, both ways in turn, with other calls between."""
+    chance = Chance(12)
+    for number in range(10):
+        version, width = VERSIONS[number % 2]
+        yield from fresh_capture(version, chance.pick([80, 200, 500]))
+        seconds = chance.below(1000)
+        for _ in range(14):
+            seconds += chance.pick([0, 0, 1, 60])
+            given = max(0, seconds - 1 - chance.below(100)) if chance.one_in(6) else seconds
+            run = led(list(some_datagrams(chance, width, chance.below(5))))
+            if chance.one_in(4):
+                run = chance.pick([damaged_run(chance, run), damaged_run(chance, run), chance.run(chance.below(12)),
+                                   bytes(chance.below(6)), b"".join(wide(chance.below(4), 2) + chance.run(2) for _ in range(5))])
+            yield chance.pick(RUNS)(given, run)
+            if chance.one_in(4):
+                yield chance.pick(["capture_open", "capture_show", "capture_count", "capture_prefix",
+                                   chance.pick(APPENDS)(given, some_event(chance, width))])
+        yield from ["capture_show", "capture_count"]
+
+
+def longest_runs():
+    """Runs as long as a line can be, into the longest buffers: more records than there is room for, lengths 0, and one byte short."""
+    for (version, width), way in zip(VERSIONS + VERSIONS, RUNS + RUNS[::-1]):
+        most = (opinion.LINE_MOST - len(way(0, b""))) // 3
+        good = event(59, 3, b"", width)
+        many = led([good] * (most // (len(good) + 2)))
+        rest = most - len(many)
+        yield from [capture_set(USE_MOST, pattern(1300)), capture_empty(version)]
+        yield from [way(9, many + bytes(rest - rest % 2)), "capture_show"]
+        yield from [way(9, bytes(most - most % 2)), way(9, bytes(most - 1 + most % 2)), capture_empty(version), way(9, many + b"\x00\x01")]
+        for run in [led([pattern(most - 2)]), led([event(59, 3, pattern(48), width)] * 21)]:
+            yield from [way(9, run[:-1]), way(9, run), "capture_show"]
+        yield "capture_count"
+    # a whole capture's datagrams, put over into another
+    for version, width in VERSIONS:
+        records = small_records(width) * 7
+        yield from fresh_capture(version, 500) + [append_run(1, led([run[6:] for run in records])), "capture_show", "capture_count"]
+        yield from [append_run(1, b"".join(records)), append_run_at(1, small_capture(version, width)), "capture_show"]
+
+
+def runs():
+    for part in [mixed_runs(), great_lengths(), low_first(), cut_runs(), wrong_ends(), wrong_lengths(), runs_over_claims(),
+                 runs_over_bad_records(), times_of_runs(), rooms_for_runs(), full_counts_of_runs(), summaries_of_runs(), marks_for_runs(),
+                 stale_marks_of_runs(), singly_and_at_once(), mornings(), longest_runs()]:
+        yield from part
+
+
 # Lines that are no call
 
 def filled(line, size):
@@ -1364,6 +1728,8 @@ LONG_LINES = [
     filled("nothing", 4095), filled("nothing", 4096), filled("sum 0", 4095), filled("sum 0", 4096),
     "x" * 4095, "x" * 4096, "frame" + " 11" * 700 + " / / " + "22 " * 660, "reply" + " A0" * 1363,
     "feed_reply" + " 00" * 1361, "close_reply",
+    filled("capture_run 00 00 00 07 /" + " 00" * 1356, 4095), filled("capture_run 00 00 00 07 /" + " 00" * 1356, 4096),
+    filled("capture_run_at 00 00 00 07 /" + " 00" * 1355, 4096),
 ]
 
 # By the rows of the table, from its first.
@@ -1412,6 +1778,12 @@ NO_CALLS = [
     "capture_append /", "capture_append 00 00 01 / 5A", "capture_append 00 00 00 00 01 /", "capture_append_at / 5A",
     "capture_append_at 00 00 01 / 5A", "capture_append_at 00 00 00 00 01 /", "capture_open 00", "capture_count 00",
     "capture_prefix 01", "capture_record", "capture_record" + " 00" * 7, "capture_record" + " 00" * 9, "capture_show 00",
+    "capture_ru", "capture_run_", "capture_runs", "Capture_run", "capture_run_at_", "capture_runat", "append_run", "run",
+    "capture_run 00 00 00 0 /", "capture_run 00 00 00 07 / 00 0", "capture_run_at 00 00 00 07 / 000E",
+    "capture_run", "capture_run 00 00 00 01", "capture_run 00 00 00 01 / 00 00 / 00 00", "capture_run / /",
+    "capture_run_at", "capture_run_at 00 00 00 01", "capture_run_at 00 00 00 01 / 00 00 / 00 00", "capture_run_at / /",
+    "capture_run /", "capture_run / 00 00", "capture_run 00 00 01 / 00 00", "capture_run 00 00 00 00 01 /",
+    "capture_run_at /", "capture_run_at / 00 00", "capture_run_at 00 00 01 / 00 00", "capture_run_at 00 00 00 00 01 /",
     "help 00", "help /", "help zz", "Help", "helps", "name 01 01", "name 01 / 00", "name 01 01 01 / 00",
 ]
 
@@ -1423,6 +1795,8 @@ CALLS_SET_OTHERWISE = [
     " capture_set  00 00 00 00 00 00 00 01  /  01  0a ff  ", "  capture_show  ", "capture_open   ", "capture_set 00 00 00 00 00 00 00 00 /",
     "capture_empty  02", "capture_append 00 00 00 07 /", "capture_set 00 00 00 00 00 00 00 01 /" + " 02" * 1300, " capture_empty 01 ",
     "capture_append_at 00 00 00 07 / 5a 43 7c ba cc 2f 40 2e 00 00 3b 03 00 6a", "capture_prefix", "capture_record 00 00 00 00 00 00 00 01",
+    "  capture_run  00 00 00 07  /  00 0e  5a 43 7c ba cc 2f 40 2e 00 00 3b 03 00 6a  00 00 ", "capture_run 00 00 00 07 /", "capture_open",
+    " capture_run_at  00 00 00 08 / 00 0e 5a 43 7C bA Cc 2f 40 2e 00 00 3b 03 00 6A", "capture_run_at 00 00 00 07 / ", "capture_show",
 ]
 
 # What the run carries, set before the lines that are no call and shown behind them.
@@ -1454,6 +1828,7 @@ KINDS = [
     ("scenes of A1 and 1B (W-201)", scenes),
     ("events of two target bytes (W-206)", two_byte_targets),
     ("captures (W-207)", captures),
+    ("runs of datagrams (W-208)", runs),
     ("lines that are no call", no_calls),
 ]
 

@@ -633,6 +633,33 @@ def record_bytes(seconds, datagram):
     return len(content).to_bytes(LENGTH_SIZE, "big") + content
 
 
+# A morning's datagrams in one call (document 02, W-208): "a run of event datagrams, each led by a two-byte big-endian length". "A run that
+# ends inside a length or whose last length reaches past its end is refused whole with 15."
+def datagrams_in(run):
+    """The datagrams of a run, in order. The length counts the datagram alone, so 0 leads an empty one."""
+    datagrams, place = [], 0
+    while place < len(run):
+        begin = place + LENGTH_SIZE
+        refuse(15, begin > len(run))
+        end = begin + high_first(run[place:begin])
+        refuse(15, end > len(run))
+        datagrams.append(run[begin:end])
+        place = end
+    return datagrams
+
+
+# "As if each had been appended singly in order, refused ones skipped, and the call returns how many went in and how many were refused."
+def appended_singly(append, seconds, datagrams):
+    """Appends each under the one time; gives how many went in and how many were refused."""
+    refused = 0
+    for datagram in datagrams:
+        try:
+            append(seconds, datagram)
+        except Refusal:
+            refused += 1
+    return len(datagrams) - refused, refused
+
+
 class Capture:
     """A buffer, its bytes in use as they are claimed, a summary and a mark. At first, a buffer of no bytes."""
 
@@ -675,6 +702,21 @@ class Capture:
         self.buffer = self.buffer[:mark.used] + record + self.buffer[end:]
         self.used = end
         return self.used
+
+    # "A capture that gives 14 or 15 refuses the call with that": capture and run are judged "before anything is appended", the capture
+    # first, so that the lower is given where both apply.
+    def append_run(self, seconds, run):
+        """Appends a run's datagrams by the letter; gives how many went in and how many were refused. The mark stays."""
+        records_in(self.buffer, self.used)
+        return appended_singly(self.append, seconds, datagrams_in(run))
+
+    # "Bytes in use and the mark's become N, the mark's last becomes the seconds where at least one went in and stays otherwise."
+    def append_run_at(self, seconds, run):
+        """Appends a run's datagrams from the mark on; gives how many went in and how many were refused."""
+        claimed_width(self.buffer, self.mark.used)
+        counts = appended_singly(self.append_at, seconds, datagrams_in(run))
+        self.used = self.mark.used
+        return counts
 
     def open(self):
         """Looks at all records; gives the mark behind them, which becomes the capture's."""
@@ -1096,6 +1138,12 @@ class Bench:
             used = capture.keep_prefix()
             return ["used", used] + summary_fields(capture.summary)
 
+        def run_fields(append_run):
+            def fields(seconds, run):
+                went_in, refused = append_run(high_first(seconds), run)
+                return ["in", went_in, "refused", refused, "used", capture.used]
+            return fields
+
         def show():
             return (["used", capture.used, "bytes", capture.buffer] + summary_fields(capture.summary)
                     + ["mark"] + mark_fields(capture.mark))
@@ -1109,6 +1157,8 @@ class Bench:
                                plain(lambda seconds, datagram: ["used", capture.append(high_first(seconds), datagram)])),
             "capture_append_at": ([exactly(4), SOME],
                                   plain(lambda seconds, datagram: ["used", capture.append_at(high_first(seconds), datagram)])),
+            "capture_run": ([exactly(4), SOME], plain(run_fields(capture.append_run))),
+            "capture_run_at": ([exactly(4), SOME], plain(run_fields(capture.append_run_at))),
             "capture_open": ([exactly(0)], plain(lambda none: ["used"] + mark_fields(capture.open()))),
             "capture_count": ([exactly(0)], plain(lambda none: summary_fields(capture.count()))),
             "capture_prefix": ([exactly(0)], plain(lambda none: keep_prefix())),

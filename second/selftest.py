@@ -41,8 +41,12 @@ STATED = [
     ("feed_reply 00 A0 FF", "0 taken 2 item 0 count 4 bytes A0 00 00 A0"),
 ]
 
-# An event of three target bytes and no data, and a summary in which nothing is counted.
+# An event of three target bytes and no data, with a wrong sum, with a data byte, with two target bytes; and a summary in which nothing is
+# counted.
 LEVEL_CHANGE = "5A 43 7C BA CC 2F 40 2E 00 00 3B 03 00 6A"
+LEVEL_CHANGE_DAMAGED = LEVEL_CHANGE[:-2] + "6B"
+LEVEL_CHANGE_LONGER = "5A 43 7C BA CC 2F 40 2E 00 00 3B 03 01 FE 95"
+LEVEL_CHANGE_TWO = "5A 43 7C BA CC 2F 40 2E 00 3B 03 00 6A"
 NOTHING_COUNTED = "records 0 first absent last absent counts 0 0 0 0 0 0 0 0 0 0 0"
 
 # Document 02: what its requests state.
@@ -152,6 +156,80 @@ STATED_LATER = [
     ("capture_append_at 00 00 00 01 / " + LEVEL_CHANGE, "0 used 21"),
     ("capture_show", "0 used 21 bytes 01 00 12 00 00 00 01 " + LEVEL_CHANGE
      + " records 6 first 9 last 1 counts 0 0 0 1 4294967295 0 0 0 0 0 0 mark 21 last 1"),
+    # W-208: "a run of event datagrams, each led by a two-byte big-endian length"; the mark stays
+    ("capture_set 00 00 00 00 00 00 00 00 /" + " FF" * 61, "0"),
+    ("capture_empty 01", "0 used 1"),
+    ("capture_run 00 00 01 07 / 00 0E " + LEVEL_CHANGE, "0 in 1 refused 0 used 21"),
+    ("capture_show", "0 used 21 bytes 01 00 12 00 00 01 07 " + LEVEL_CHANGE + " FF" * 40
+     + " records 1 first 263 last 263 counts 0 0 0 1 0 0 0 0 0 0 0 mark 1 last absent"),
+    # "refused ones skipped, and the call returns how many went in and how many were refused"
+    ("capture_run 00 00 01 07 / 00 0E " + LEVEL_CHANGE_DAMAGED + " 00 0E " + LEVEL_CHANGE, "0 in 1 refused 1 used 41"),
+    # a length 0 leads an empty datagram; an empty run has none
+    ("capture_run 00 00 01 07 / 00 00", "0 in 0 refused 1 used 41"),
+    ("capture_run 00 00 01 07 / 00 00 00 00 00 00", "0 in 0 refused 3 used 41"),
+    ("capture_run 00 00 01 07 /", "0 in 0 refused 0 used 41"),
+    # "a run that ends inside a length"
+    ("capture_run 00 00 01 07 / 00", "15"),
+    ("capture_run 00 00 01 07 / 00 0E " + LEVEL_CHANGE + " 00", "15"),
+    # "or whose last length reaches past its end": one too great, counted with itself, low byte first, with nothing behind it
+    ("capture_run 00 00 01 07 / 00 0F " + LEVEL_CHANGE, "15"),
+    ("capture_run 00 00 01 07 / 00 10 " + LEVEL_CHANGE, "15"),
+    ("capture_run 00 00 01 07 / 0E 00 " + LEVEL_CHANGE, "15"),
+    ("capture_run 00 00 01 07 / 00 0E " + LEVEL_CHANGE + " 00 01", "15"),
+    ("capture_run 00 00 01 07 / 00 0E " + LEVEL_CHANGE[:-3], "15"),
+    # a time below the last record's: counted as refused
+    ("capture_run 00 00 01 06 / 00 0E " + LEVEL_CHANGE + " 00 0E " + LEVEL_CHANGE, "0 in 0 refused 2 used 41"),
+    ("capture_show", "0 used 41 bytes 01" + (" 00 12 00 00 01 07 " + LEVEL_CHANGE) * 2 + " FF" * 20
+     + " records 2 first 263 last 263 counts 0 0 0 2 0 0 0 0 0 0 0 mark 1 last absent"),
+    # no room; a later, shorter one still goes in
+    ("capture_run 00 00 01 08 / 00 0F " + LEVEL_CHANGE_LONGER + " 00 0E " + LEVEL_CHANGE + " 00 0E " + LEVEL_CHANGE,
+     "0 in 1 refused 2 used 61"),
+    ("capture_count", "0 records 3 first 263 last 264 counts 0 0 0 3 0 0 0 0 0 0 0"),
+    # from the mark: bytes in use become its own, also where none went in; its last stays then
+    ("capture_run_at 00 00 01 07 /", "0 in 0 refused 0 used 1"),
+    ("capture_show", "0 used 1 bytes 01" + (" 00 12 00 00 01 07 " + LEVEL_CHANGE) * 2 + " 00 12 00 00 01 08 " + LEVEL_CHANGE
+     + " records 3 first 263 last 264 counts 0 0 0 3 0 0 0 0 0 0 0 mark 1 last absent"),
+    ("capture_run_at 00 00 00 09 / 00 00 00 0E " + LEVEL_CHANGE, "0 in 1 refused 1 used 21"),
+    ("capture_run_at 00 00 00 08 / 00 0E " + LEVEL_CHANGE, "0 in 0 refused 1 used 21"),
+    ("capture_run_at 00 00 00 09 / 00 0E " + LEVEL_CHANGE + " 00", "15"),
+    ("capture_run_at 00 00 00 09 / 00 0F " + LEVEL_CHANGE, "15"),
+    ("capture_show", "0 used 21 bytes 01 00 12 00 00 00 09 " + LEVEL_CHANGE + " 00 12 00 00 01 07 " + LEVEL_CHANGE
+     + " 00 12 00 00 01 08 " + LEVEL_CHANGE + " records 4 first 263 last 9 counts 0 0 0 4 0 0 0 0 0 0 0 mark 21 last 9"),
+    # "8 for no room .. in a count": the second of a type is refused, the third is of another
+    ("summary_set 00 00 00 05 00 00 00 00 00 00 00 00 00 00" + " 00" * 12 + " FF FF FF FE" + " 00" * 28, "0"),
+    ("capture_run_at 00 00 00 09 / 00 0E " + LEVEL_CHANGE + " 00 0E " + LEVEL_CHANGE + " 00 0E " + LEVEL_CHANGE[:-8] + "04 00 6D",
+     "0 in 2 refused 1 used 61"),
+    ("capture_show", "0 used 61 bytes 01" + (" 00 12 00 00 00 09 " + LEVEL_CHANGE) * 2 + " 00 12 00 00 00 09 " + LEVEL_CHANGE[:-8]
+     + "04 00 6D records 7 first 9 last 9 counts 0 0 0 4294967295 1 0 0 0 0 0 0 mark 61 last 9"),
+    # the other layout
+    ("capture_set 00 00 00 00 00 00 00 00 /" + " FF" * 40, "0"),
+    ("capture_empty 02", "0 used 1"),
+    ("capture_run 00 00 01 07 / 00 0E " + LEVEL_CHANGE + " 00 0D " + LEVEL_CHANGE_TWO, "0 in 1 refused 1 used 20"),
+    ("capture_open", "0 used 20 last 263"),
+    ("capture_run_at 00 00 01 08 / 00 0E " + LEVEL_CHANGE + " 00 0D " + LEVEL_CHANGE_TWO, "0 in 1 refused 1 used 39"),
+    ("capture_show", "0 used 39 bytes 02 00 11 00 00 01 07 " + LEVEL_CHANGE_TWO + " 00 11 00 00 01 08 " + LEVEL_CHANGE_TWO
+     + " FF records 2 first 263 last 264 counts 0 0 0 2 0 0 0 0 0 0 0 mark 39 last 264"),
+    # "a capture that gives 14 or 15 refuses the call with that"; 14 is lower than a bad run's 15
+    ("capture_set 00 00 00 00 00 00 00 01 / 03" + " FF" * 40, "0"),
+    ("mark_set 00 00 00 00 00 00 00 01 00 00 00 00 00", "0"),
+    ("capture_run 00 00 01 07 /", "14"),
+    ("capture_run 00 00 01 07 / 00", "14"),
+    ("capture_run_at 00 00 01 07 /", "14"),
+    ("capture_run_at 00 00 01 07 / 00", "14"),
+    ("capture_set 00 00 00 00 00 00 00 00 / 03", "0"),
+    ("mark_set 00 00 00 00 00 00 00 00 00 00 00 00 00", "0"),
+    ("capture_run 00 00 01 07 /", "15"),
+    ("capture_run_at 00 00 01 07 /", "15"),
+    ("capture_set 00 00 00 00 00 00 00 02 / 01", "0"),
+    ("mark_set 00 00 00 00 00 00 00 02 00 00 00 00 00", "0"),
+    ("capture_run 00 00 01 07 /", "15"),
+    ("capture_run_at 00 00 01 07 /", "15"),
+    # records are looked at by the letter, and not from a mark
+    ("capture_set 00 00 00 00 00 00 00 06 / 01 00 03 00 00 00", "0"),
+    ("mark_set 00 00 00 00 00 00 00 06 01 00 00 00 05", "0"),
+    ("capture_run 00 00 01 07 /", "15"),
+    ("capture_run_at 00 00 01 07 / 00 00", "0 in 0 refused 1 used 6"),
+    ("capture_show", "0 used 6 bytes 01 00 03 00 00 00 records 2 first 263 last 264 counts 0 0 0 2 0 0 0 0 0 0 0 mark 6 last 5"),
 ]
 
 # The events that source 002 prints, in the layout of its table: document 01 keeps to the table.
@@ -209,6 +287,17 @@ def runs_of_appends(chance):
     for _ in range(60):
         for version, width in cases.VERSIONS:
             yield version, chance.pick([60, 300, 2000]), list(cases.some_appends(chance, width))
+
+
+# In appending, of a capture that gives neither 14 nor 15: "1 to 7 for the datagram, then 16, then 8"; 3 is none of an event's.
+REFUSED_SINGLY = {1, 2, 4, 5, 6, 7, 8, 16}
+
+
+def mornings(chance):
+    """Datagrams by chance in both layouts, some of them empty, with a version and the size of a buffer for each run."""
+    for version, size, appends in runs_of_appends(chance):
+        datagrams = [b"" if chance.one_in(20) else datagram for _, datagram in appends]
+        yield version, size, cases.parted(datagrams, chance)
 
 
 class SelfTest(unittest.TestCase):
@@ -290,6 +379,45 @@ class SelfTest(unittest.TestCase):
                     self.assertEqual(torn.keep_prefix(), ends[kept])
                     self.assertEqual(torn.summary, opinion.counted(records[:kept]))
                     self.assertEqual(torn.mark, torn.open())
+
+    def test_runs_are_singles(self):
+        chance = cases.Chance(11)
+        seen = set()
+        for version, size, parts in mornings(chance):
+            single, whole, marked_single, marked_whole = (empty_capture(version, size) for _ in range(4))
+            for datagrams in parts:
+                seconds = chance.below(30)
+                numbers = [answered(single.append, seconds, datagram)[0] for datagram in datagrams]
+                for datagram in datagrams:
+                    answered(marked_single.append_at, seconds, datagram)
+                counts = numbers.count(0), len(numbers) - numbers.count(0)
+                run = cases.led(datagrams)
+                self.assertEqual(whole.append_run(seconds, run), counts)
+                self.assertEqual(marked_whole.append_run_at(seconds, run), counts)
+                self.assertEqual(vars(whole), vars(single))
+                self.assertEqual(vars(marked_whole), vars(marked_single))
+                self.assertEqual((whole.buffer, whole.used, whole.summary),
+                                 (marked_whole.buffer, marked_whole.used, marked_whole.summary))
+                self.assertEqual(whole.summary, whole.count())
+                self.assertEqual(marked_whole.mark, opinion.mark_behind(opinion.records_in(whole.buffer, whole.used)))
+                seen.update(numbers)
+        self.assertEqual(seen, REFUSED_SINGLY | {0})
+
+    def test_runs_cut_anywhere(self):
+        chance = cases.Chance(12)
+        for version, size, parts in list(mornings(chance))[:20]:
+            datagrams = parts[0][:6]
+            run = cases.led(datagrams)
+            ends = {len(cases.led(datagrams[:count])): datagrams[:count] for count in range(len(datagrams) + 1)}
+            for cut in range(len(run) + 1):
+                for append_run in [opinion.Capture.append_run, opinion.Capture.append_run_at]:
+                    capture = empty_capture(version, size)
+                    before = dict(vars(capture))
+                    if cut in ends:
+                        self.assertEqual(sum(append_run(capture, 5, run[:cut])), len(ends[cut]))
+                    else:
+                        self.assertEqual(answered(lambda *given: append_run(capture, *given), 5, run[:cut]), (15, None))
+                        self.assertEqual(vars(capture), before)
 
     def test_printed_events(self):
         bench = opinion.Bench()

@@ -417,6 +417,15 @@ fn capture(n: usize, c: Carried, s: &[u8], t: &[u8], buffer: &mut [u8]) -> Moved
             let f = append::append_at(buffer, mark, summary, seconds, t);
             bench_capture::found(c, f, Tail::Nothing)
         }
+        0xCB => {
+            let r = morning::run(buffer, c.used, summary, seconds, t);
+            bench_capture::ran(c, r)
+        }
+        0xCC => {
+            let mark = c.mark;
+            let r = morning::run_at(buffer, mark, summary, seconds, t);
+            bench_capture::ran_at(c, r)
+        }
         _ => looked(n, c, s, buffer),
     }
 }

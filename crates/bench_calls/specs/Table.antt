@@ -86,6 +86,8 @@ table =
     ∷ row "capture_empty" 0xC3_1_001_001_FFF
     ∷ row "capture_append" 0xC4_2_004_004_FFF
     ∷ row "capture_append_at" 0xC5_2_004_004_FFF
+    ∷ row "capture_run" 0xCB_2_004_004_FFF
+    ∷ row "capture_run_at" 0xCC_2_004_004_FFF
     ∷ row "capture_open" 0xC6_1_000_000_FFF
     ∷ row "capture_count" 0xC7_1_000_000_FFF
     ∷ row "capture_prefix" 0xC8_1_000_000_FFF

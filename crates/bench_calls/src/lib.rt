@@ -30,7 +30,7 @@ pub enum Called {
 // many the second has at most, as digits of one hexadecimal number. FFF is more than a line can name. A third group may
 // have any. The first digit of a call's number is its family: what is answered of it is of one kind. (7 and 8 write into a
 // buffer, which is their last group of two or of three; A gives the data of a datagram.) New calls stand behind those of theirs.
-const ROWS: [usize; 72] = [
+const ROWS: [usize; 74] = [
     // Datagrams
     0x10_1_000_FFF_FFF, // request
     0x70_2_006_006_FFF, // write_basic
@@ -103,6 +103,8 @@ const ROWS: [usize; 72] = [
     0xC3_1_001_001_FFF, // capture_empty
     0xC4_2_004_004_FFF, // capture_append
     0xC5_2_004_004_FFF, // capture_append_at
+    0xCB_2_004_004_FFF, // capture_run
+    0xCC_2_004_004_FFF, // capture_run_at
     0xC6_1_000_000_FFF, // capture_open
     0xC7_1_000_000_FFF, // capture_count
     0xC8_1_000_000_FFF, // capture_prefix
@@ -113,7 +115,7 @@ const ROWS: [usize; 72] = [
 ];
 
 // Their names, in the order of the rows, with a blank between two.
-const NAMES: [u8; 767] =
+const NAMES: [u8; 794] =
     *b"request write_basic write_unicast reply reply_data error_code write_reply event event_data \
 write_event event_two event_two_data write_event_two relay_request relay_reply relay_event \
 relay_event_two sum frame known shape fits error_name event_type group_target lights status \
@@ -121,8 +123,8 @@ device device_number name high_first mask count_types lowest_type scenes gear co
 lowest_gear types filters filter book_fresh book_set ask answer book_show fresh_request \
 hold_request feed_request close_request show_request settle_request item_request fresh_reply \
 hold_reply feed_reply close_reply show_reply settle_reply item_reply capture_set summary_set \
-mark_set capture_empty capture_append capture_append_at capture_open capture_count \
-capture_prefix capture_record capture_show help";
+mark_set capture_empty capture_append capture_append_at capture_run capture_run_at \
+capture_open capture_count capture_prefix capture_record capture_show help";
 
 // Whether two runs hold the same bytes.
 fn same(s: &[u8], t: &[u8]) -> bool
@@ -163,7 +165,7 @@ fn row_of(name: &[u8]) -> usize
     ensures { λ r. ⌜ r ≡ rowOf (now (name .entry)) ⌝ }
 {
     let k = place(&NAMES, name);
-    if k < 72 { ROWS[k] } else { 0 }
+    if k < 74 { ROWS[k] } else { 0 }
 }
 
 // Whether the groups are those that the row asks for.

@@ -18,10 +18,12 @@ use Rattle.capture.specs.declared.Opening.the-variants.{Open as opening·Open, 
 use Rattle.capture.specs.declared.Next.{Next}
 use Rattle.capture.specs.declared.Next.the-variants.{Record as next·Record, Refused as next·Refused}
 use Rattle.append.specs.declared.Appended.{Appended}
+use Rattle.morning.specs.declared.Ran.{Ran}
+use Rattle.morning.specs.declared.RanAt.{RanAt}
 use Rattle.bench_capture.specs.declared.Carried.{Carried}
 use Rattle.bench_capture.specs.declared.Moved.{Moved}
 use Rattle.bench_capture.specs.declared.Head.{Head}
-use Rattle.bench_capture.specs.declared.Head.the-variants.{Done, Used, Open, At as head·At, Refused}
+use Rattle.bench_capture.specs.declared.Head.the-variants.{Done, Used, Ran as head·Ran, Open, At as head·At, Refused}
 use Rattle.bench_capture.specs.declared.Tail.{Tail}
 use Rattle.bench_capture.specs.declared.Tail.the-variants.{Nothing, Counted, Next as tail·Next, All}
 
@@ -82,6 +84,17 @@ onFound (went·Refused n) c k more = refuses c n
 abbrev pub onAppended : Went → Carried → Appended → Moved
 onAppended Well c a = tells (record { size = c .size; used = a .used; mark = c .mark; summary = a .summary }) (Used (a .used)) Nothing
 onAppended (went·Refused n) c a = refuses c n
+
+-- `capture_run`: "reads and moves what `capture_append` does (the mark stays)"
+abbrev pub onRan : Went → Carried → Ran → Moved
+onRan Well c r =
+    tells (record { size = c .size; used = r .used; mark = c .mark; summary = r .summary }) (head·Ran (r .entered) (r .refused) (r .used)) Nothing
+onRan (went·Refused n) c r = refuses c n
+
+-- `capture_run_at`: "the same from the mark"; "bytes in use and the mark's become N"
+abbrev pub onRanAt : Went → Carried → RanAt → Moved
+onRanAt Well c r = tells (becomes c (r .kept)) (head·Ran (r .entered) (r .refused) (r .kept .mark .used)) Nothing
+onRanAt (went·Refused n) c r = refuses c n
 
 -- `capture_open`: "the mark becomes what is said; summary stays"
 abbrev pub onOpening : Opening → Carried → Moved

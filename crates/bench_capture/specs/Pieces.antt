@@ -16,10 +16,10 @@ use Rattle.capture.specs.declared.Mark.{Mark}
 use Rattle.bench_capture.specs.Carried.{numberAt, countsAt}
 use Rattle.bench_capture.specs.Told.{firstTexts, lastTexts, numbersTexts, markTexts, headTexts}
 use Rattle.bench_capture.specs.declared.Head.{Head}
-use Rattle.bench_capture.specs.declared.Head.the-variants.{Done, Used, Open, At as head·At, Refused}
+use Rattle.bench_capture.specs.declared.Head.the-variants.{Done, Used, Ran, Open, At as head·At, Refused}
 
 abbrev pub names : List ℕ
-names = text "0,0 used , last , last absent,0 seconds , mark , next , records , first , first absent"
+names = text "0,0 used , last , last absent,0 seconds , mark , next , records , first , first absent,0 in , refused , used "
 
 abbrev pub markPieces : ℕ → ℕ → Seconds → Pieces
 markPieces a n Absent = three a n 0x31 0 0 0
@@ -34,6 +34,7 @@ summaryPieces n (At t) (At u) = three 0x72 n 0x82 t 0x22 u
 abbrev pub headPieces : Head → Pieces
 headPieces Done = three 0x01 0 0 0 0 0
 headPieces (Used n) = three 0x12 n 0 0 0 0
+headPieces (Ran n k u) = three 0xA2 n 0xB2 k 0xC2 u
 headPieces (Open m) = markPieces 0x12 (m .used) (m .last)
 headPieces (head·At t) = three 0x42 t 0 0 0 0
 headPieces (Refused k) = three 4 k 0 0 0 0
@@ -60,6 +61,7 @@ head-said : (h : Head) → piecesTexts names (headPieces h) ≡ headTexts h
 unfolding before wordIn
 head-said Done = refl
 head-said (Used n) = refl
+head-said (Ran n k u) = refl
 head-said (Open m) = opened-said (m .used) (m .last)
 head-said (head·At t) = refl
 head-said (Refused k) = refl

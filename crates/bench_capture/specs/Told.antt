@@ -10,7 +10,7 @@ use Rattle.summary.specs.declared.Seconds.the-variants.{Absent, At}
 use Rattle.summary.specs.declared.Summary.{Summary}
 use Rattle.capture.specs.declared.Mark.{Mark}
 use Rattle.bench_capture.specs.declared.Head.{Head}
-use Rattle.bench_capture.specs.declared.Head.the-variants.{Done, Used, Open, At as head·At, Refused}
+use Rattle.bench_capture.specs.declared.Head.the-variants.{Done, Used, Ran, Open, At as head·At, Refused}
 use Rattle.bench_capture.specs.declared.Tail.{Tail}
 use Rattle.bench_capture.specs.declared.Tail.the-variants.{Nothing, Counted, Next, All}
 
@@ -37,10 +37,11 @@ summaryTexts x =
 abbrev pub markTexts : List ℕ → Mark → List (List ℕ)
 markTexts name m = name ∷ decimalOf (m .used) ∷ lastTexts (m .last)
 
--- how an answer begins: "`used N`", "`used N last N`, or `used N last absent`", "`seconds N`", or a refusal
+-- how an answer begins: "`used N`", "`in N refused N used N`", "`used N last N`, or `used N last absent`", "`seconds N`", or a refusal
 abbrev pub headTexts : Head → List (List ℕ)
 headTexts Done = text "0" ∷ []
 headTexts (Used n) = text "0 used " ∷ decimalOf n ∷ []
+headTexts (Ran n k u) = text "0 in " ∷ decimalOf n ∷ text " refused " ∷ decimalOf k ∷ text " used " ∷ decimalOf u ∷ []
 headTexts (Open m) = markTexts (text "0 used ") m
 headTexts (head·At t) = text "0 seconds " ∷ decimalOf t ∷ []
 headTexts (Refused k) = decimalOf k ∷ []

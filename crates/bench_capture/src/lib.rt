@@ -1,6 +1,6 @@
 // The capture on the bench: what is carried of it beside the bytes of its buffer, what is handed in, what each call moves, and what is
-// answered. docs/BENCH.md, "The capture". It leans on crates bench_words and bench_say, and on crates summary, capture and append for what
-// is said.
+// answered. docs/BENCH.md, "The capture". It leans on crates bench_words and bench_say, and on crates summary, capture, append and
+// morning for what is said.
 ghost use Prim.Native.Nat.{_≤_};
 ghost use mathlib.Core.Path.{_≡_};
 ghost use mathlib.Core.List.{[], _∷_, _++_};
@@ -8,15 +8,18 @@ ghost use Rattle.text.specs.Text.{decimalOf};
 ghost use Rattle.bench_say.specs.Said.{PutsAll};
 ghost use Rattle.bench_say.specs.Pieces.{piecesTexts};
 ghost use Rattle.bench_capture.specs.Carried.{atFirst, numberAt, secondsAt, countsAt, tells, captureSet, summarySet, markSet};
-ghost use Rattle.bench_capture.specs.Carried.{onFound, onAppended, onOpening, onCounting, onStep, onShow};
+ghost use Rattle.bench_capture.specs.Carried.{becomes, onFound, onAppended, onRan, onRanAt, onOpening, onCounting, onStep, onShow};
 ghost use Rattle.bench_capture.specs.Told.{numbersTexts, summaryTexts, headTexts, tailTexts};
 ghost use Rattle.bench_capture.specs.Pieces.{names, markPieces, summaryPieces, headPieces};
 use append::Appended;
 use bench_say::Pieces;
 use capture::Found;
+use capture::Kept;
 use capture::Mark;
 use capture::Next;
 use capture::Opening;
+use morning::Ran;
+use morning::RanAt;
 use summary::Counting;
 use summary::Seconds;
 use summary::Summary;
@@ -30,10 +33,12 @@ pub struct Carried {
     pub summary: Summary,
 }
 
-// How an answer begins: nothing said, bytes in use, a mark that was opened, a record's seconds, a refusal.
+// How an answer begins: nothing said, bytes in use, how many datagrams of a run went in and how many were refused with the bytes in use, a
+// mark that was opened, a record's seconds, a refusal.
 pub enum Head {
     Done,
     Used(usize),
+    Ran(usize, usize, usize),
     Open(Mark),
     At(u32),
     Refused(u8),
@@ -178,6 +183,20 @@ pub fn mark_set(c: Carried, s: &[u8]) -> Moved
     )
 }
 
+// What is carried where bytes in use, mark and summary become those that are kept.
+fn becomes(c: Carried, kept: Kept) -> Carried
+    ensures { λ r. ⌜ r ≡ becomes c kept ⌝ }
+{
+    let mark = kept.mark;
+    let summary = kept.summary;
+    Carried {
+        size: c.size,
+        used: mark.used,
+        mark,
+        summary,
+    }
+}
+
 // What emptying a capture found, an append by a mark, or a look for the longest good prefix, behind which more is shown.
 pub fn found(c: Carried, f: Found, more: Tail) -> Moved
     ensures { λ r. ⌜ r ≡ onFound (f .went) c (f .kept) more ⌝ }
@@ -185,19 +204,9 @@ pub fn found(c: Carried, f: Found, more: Tail) -> Moved
     let went = f.went;
     let kept = f.kept;
     let mark = kept.mark;
-    let summary = kept.summary;
     match went {
         Went::Refused(k) => tells(c, Head::Refused(k), Tail::Nothing),
-        Went::Well => tells(
-            Carried {
-                size: c.size,
-                used: mark.used,
-                mark,
-                summary,
-            },
-            Head::Used(mark.used),
-            more,
-        ),
+        Went::Well => tells(becomes(c, kept), Head::Used(mark.used), more),
     }
 }
 
@@ -218,6 +227,45 @@ pub fn appended(c: Carried, a: Appended) -> Moved
                 summary,
             },
             Head::Used(a.used),
+            Tail::Nothing,
+        ),
+    }
+}
+
+// What a run by the letter answered.
+pub fn ran(c: Carried, r: Ran) -> Moved
+    ensures { λ m. ⌜ m ≡ onRan (r .went) c r ⌝ }
+{
+    let went = r.went;
+    let mark = c.mark;
+    let summary = r.summary;
+    match went {
+        Went::Refused(k) => tells(c, Head::Refused(k), Tail::Nothing),
+        Went::Well => tells(
+            Carried {
+                size: c.size,
+                used: r.used,
+                mark,
+                summary,
+            },
+            Head::Ran(r.entered, r.refused, r.used),
+            Tail::Nothing,
+        ),
+    }
+}
+
+// What a run by a mark answered.
+pub fn ran_at(c: Carried, r: RanAt) -> Moved
+    ensures { λ m. ⌜ m ≡ onRanAt (r .went) c r ⌝ }
+{
+    let went = r.went;
+    let kept = r.kept;
+    let mark = kept.mark;
+    match went {
+        Went::Refused(k) => tells(c, Head::Refused(k), Tail::Nothing),
+        Went::Well => tells(
+            becomes(c, kept),
+            Head::Ran(r.entered, r.refused, mark.used),
             Tail::Nothing,
         ),
     }
@@ -285,7 +333,7 @@ fn put(out: &mut [u8], at: usize, p: Pieces) -> usize
     bench_say::put(
         out,
         at,
-        b"0,0 used , last , last absent,0 seconds , mark , next , records , first , first absent",
+        b"0,0 used , last , last absent,0 seconds , mark , next , records , first , first absent,0 in , refused , used ",
         p,
     )
 }
@@ -358,6 +406,7 @@ fn front(h: Head) -> Pieces
     match h {
         Head::Done => Pieces(0x01, 0, 0, 0, 0, 0, 0),
         Head::Used(n) => Pieces(0x12, n as u64, 0, 0, 0, 0, 0),
+        Head::Ran(n, k, u) => Pieces(0xA2, n as u64, 0xB2, k as u64, 0xC2, u as u64, 0),
         Head::Open(m) => mark(0x12, m),
         Head::At(t) => Pieces(0x42, t as u64, 0, 0, 0, 0, 0),
         Head::Refused(k) => Pieces(4, k as u64, 0, 0, 0, 0, 0),

@@ -12,11 +12,16 @@ use Rattle.capture.specs.declared.Found.{Found}
 use Rattle.capture.specs.Capture.{found, nothingKept}
 use Rattle.append.specs.declared.Appended.{Appended}
 use Rattle.append.specs.Append.{emptied, emptyLeft, verdictAt, handed, verdict, appendedTo, leftBy}
+use Rattle.morning.specs.declared.Ran.{Ran}
+use Rattle.morning.specs.declared.RanAt.{RanAt}
+use Rattle.morning.specs.Morning.{ran, ranOut, ranLeft, ranAt, ranAtOut, ranAtLeft}
 use Rattle.c_capture.specs.Times.{timeIn, timeIs, timeNo}
 use Rattle.c_capture.specs.declared.WickSummary.{WickSummary}
 use Rattle.c_capture.specs.declared.WickMark.{WickMark}
 use Rattle.c_capture.specs.declared.WickCapture.{WickCapture}
 use Rattle.c_capture.specs.declared.WickAppended.{WickAppended}
+use Rattle.c_capture.specs.declared.WickRan.{WickRan}
+use Rattle.c_capture.specs.declared.WickRanAt.{WickRanAt}
 use Rattle.c_capture.specs.declared.WickOpened.{WickOpened}
 use Rattle.c_capture.specs.declared.WickCounted.{WickCounted}
 
@@ -53,6 +58,20 @@ foundOut f = record { refusal = wentNo (f .went); mark = markOut (f .kept .mark)
 abbrev pub appendedOut : Appended → WickAppended
 appendedOut a = record { refusal = wentNo (a .went); used = a .used; summary = summaryOut (a .summary) }
 
+-- of a run, beside how many went in and how many were refused
+abbrev pub runOut : Ran → WickRan
+runOut r = record { refusal = wentNo (r .went); entered = r .entered; refused = r .refused; used = r .used; summary = summaryOut (r .summary) }
+
+abbrev pub runAtOut : RanAt → WickRanAt
+runAtOut r =
+    record {
+      refusal = wentNo (r .went);
+      entered = r .entered;
+      refused = r .refused;
+      mark = markOut (r .kept .mark);
+      summary = summaryOut (r .kept .summary);
+    }
+
 abbrev pub openedOut : Answer Mark → WickOpened
 openedOut (refused k) = record { refusal = k; mark = record { used = 0; «has_last» = 0; last = 0 } }
 openedOut (full m) = record { refusal = 0; mark = markOut m }
@@ -73,3 +92,12 @@ pub record AppendsAtOut (b : List ℕ) (m : Mark) (x : Summary) (t : ℕ) (d : L
 pub record AppendsOut (b : List ℕ) (u : ℕ) (x : Summary) (t : ℕ) (d : List ℕ) (w : WickAppended) (b′ : List ℕ) : Type 0 where
   pub says : w ≡ appendedOut (appendedTo (verdict b u x t d) u x t d)
   pub leaves : b′ ≡ leftBy (verdict b u x t d) b u t d
+
+-- of a run by the letter and by a mark
+pub record RunsOut (b : List ℕ) (u : ℕ) (x : Summary) (t : ℕ) (run : List ℕ) (w : WickRan) (b′ : List ℕ) : Type 0 where
+  pub says : w ≡ runOut (ranOut (ran b u x t run) u x)
+  pub leaves : b′ ≡ ranLeft (ran b u x t run) b
+
+pub record RunsAtOut (b : List ℕ) (m : Mark) (x : Summary) (t : ℕ) (run : List ℕ) (w : WickRanAt) (b′ : List ℕ) : Type 0 where
+  pub says : w ≡ runAtOut (ranAtOut (ranAt b m x t run) m x)
+  pub leaves : b′ ≡ ranAtLeft (ranAt b m x t run) b

@@ -1,4 +1,4 @@
--- What the contracts of crates capture and append say of an answer, said of what is handed over.
+-- What the contracts of crates capture, append and morning say of an answer, said of what is handed over.
 use Prim.Native.Nat.{ℕ, _+_, _-_}
 use mathlib.Core.Path.{_≡_, refl, ap, _∙_}
 use mathlib.Core.List.{List}
@@ -11,7 +11,10 @@ use Rattle.capture.specs.declared.Mark.{Mark}
 use Rattle.capture.specs.declared.Found.{Found}
 use Rattle.append.specs.declared.Appended.{Appended}
 use Rattle.append.specs.Append.{emptied, Empties, verdictAt, AppendsAt, verdict, Appends}
-use Rattle.c_capture.specs.Captures.{foundOut, appendedOut, EmptiesOut, AppendsAtOut, AppendsOut}
+use Rattle.morning.specs.declared.Ran.{Ran}
+use Rattle.morning.specs.declared.RanAt.{RanAt}
+use Rattle.morning.specs.Morning.{ran, Runs, ranAt, RunsAt}
+use Rattle.c_capture.specs.Captures.{foundOut, appendedOut, runOut, runAtOut, EmptiesOut, AppendsAtOut, AppendsOut, RunsOut, RunsAtOut}
 use Rattle.c_capture.specs.Records.{recordOut, stoodOut}
 
 pub empties-out : {b b′ : List ℕ} {v : ℕ} (r : Found) → Empties (emptied b v) b v r b′ → EmptiesOut b v (foundOut r) b′
@@ -25,6 +28,14 @@ appends-at-out r e f w = rw (← e, ← f) (record { says = ap foundOut (w .says
 pub appends-out : {b b′ d : List ℕ} {u : ℕ} {x x′ : Summary} {t : ℕ} (r : Appended) → x′ ≡ x
     → Appends (verdict b u x′ t d) b u x′ t d r b′ → AppendsOut b u x t d (appendedOut r) b′
 appends-out r f w = rw (← f) (record { says = ap appendedOut (w .says); leaves = w .leaves })
+
+pub runs-out : {b b′ run : List ℕ} {u : ℕ} {x x′ : Summary} {t : ℕ} (r : Ran) → x′ ≡ x
+    → Runs (ran b u x′ t run) b u x′ r b′ → RunsOut b u x t run (runOut r) b′
+runs-out r f w = rw (← f) (record { says = ap runOut (w .says); leaves = w .leaves })
+
+pub runs-at-out : {b b′ run : List ℕ} {m m′ : Mark} {x x′ : Summary} {t : ℕ} (r : RanAt) → m′ ≡ m → x′ ≡ x
+    → RunsAt (ranAt b m′ x′ t run) b m′ x′ r b′ → RunsAtOut b m x t run (runAtOut r) b′
+runs-at-out r e f w = rw (← e, ← f) (record { says = ap runAtOut (w .says); leaves = w .leaves })
 
 -- a record, told by its place and the next
 pub stood-out : (p : ℕ) (a : Answer Entry) → stoodOut p (standing p a) ≡ recordOut p a

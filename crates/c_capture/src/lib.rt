@@ -1,18 +1,20 @@
 // Captures as programs in C have them: the structs that crate wickanchor takes and hands over, laid out as C does, and what turns the
-// answers of crates capture and append into them, and marks and summaries back. A refusal is its number by documents 01 and 02, and 0 stands
-// for none. Beside a time stands a flag: 0 where it is absent, and then it is handed over as 0; every other flag that is handed in says that
-// there is one. Each contract is an equation over what the answer says. Document 02, W-207.
+// answers of crates capture, append and morning into them, and marks and summaries back. A refusal is its number by documents 01 and 02, and
+// 0 stands for none. Beside a time stands a flag: 0 where it is absent, and then it is handed over as 0; every other flag that is handed in
+// says that there is one. Each contract is an equation over what the answer says. Document 02, W-207 and W-208.
 ghost use Prim.Native.Nat.{_-_};
 ghost use mathlib.Core.Path.{_≡_};
 ghost use Rattle.capture.specs.Capture.{saidOpening, saidStep};
 ghost use Rattle.c_capture.specs.Times.{timeIn, timeIs, timeNo};
-ghost use Rattle.c_capture.specs.Captures.{summaryIn, summaryOut, markIn, markOut, wentNo, foundOut, appendedOut, openedOut, countedOut};
+ghost use Rattle.c_capture.specs.Captures.{summaryIn, summaryOut, markIn, markOut, wentNo, foundOut, appendedOut, runOut, runAtOut, openedOut, countedOut};
 ghost use Rattle.c_capture.specs.Records.{stoodOut};
 use append::Appended;
 use capture::Found;
 use capture::Mark;
 use capture::Next;
 use capture::Opening;
+use morning::Ran;
+use morning::RanAt;
 use summary::Counting;
 use summary::Seconds;
 use summary::Summary;
@@ -50,6 +52,26 @@ pub struct WickCapture {
 pub struct WickAppended {
     pub refusal: u8,
     pub used: usize,
+    pub summary: WickSummary,
+}
+
+// What a run by the letter gives: how many datagrams went in and how many were refused, bytes in use and summary afterwards.
+#[repr(C)]
+pub struct WickRan {
+    pub refusal: u8,
+    pub entered: usize,
+    pub refused: usize,
+    pub used: usize,
+    pub summary: WickSummary,
+}
+
+// What a run by a mark gives: the same, with a mark in place of bytes in use.
+#[repr(C)]
+pub struct WickRanAt {
+    pub refusal: u8,
+    pub entered: usize,
+    pub refused: usize,
+    pub mark: WickMark,
     pub summary: WickSummary,
 }
 
@@ -190,6 +212,38 @@ pub fn appended_out(a: Appended) -> WickAppended
     WickAppended {
         refusal: went_no(went),
         used: a.used,
+        summary: summary_out(summary),
+    }
+}
+
+// What a run by the letter answers.
+pub fn ran_out(r: Ran) -> WickRan
+    ensures { λ w. ⌜ w ≡ runOut r ⌝ }
+{
+    let went = r.went;
+    let summary = r.summary;
+    WickRan {
+        refusal: went_no(went),
+        entered: r.entered,
+        refused: r.refused,
+        used: r.used,
+        summary: summary_out(summary),
+    }
+}
+
+// What a run by a mark answers.
+pub fn ran_at_out(a: RanAt) -> WickRanAt
+    ensures { λ w. ⌜ w ≡ runAtOut a ⌝ }
+{
+    let went = a.went;
+    let kept = a.kept;
+    let mark = kept.mark;
+    let summary = kept.summary;
+    WickRanAt {
+        refusal: went_no(went),
+        entered: a.entered,
+        refused: a.refused,
+        mark: mark_out(mark),
         summary: summary_out(summary),
     }
 }

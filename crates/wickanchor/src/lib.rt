@@ -1,6 +1,6 @@
 // The codec for programs in C and Rust: `rt staticlib wickanchor` makes a static library of the functions below, for x86-64. A run of
 // bytes is a pointer and then a length; a result is a struct by value, laid out as C does. A refusal is its number by documents 01 and 02,
-// and 0 stands for none; every other field of a refused call is 0, but for a book, a mark and a summary that were handed in.
+// and 0 stands for none; every other field of a refused call is 0, but for a book, a mark, bytes in use and a summary that were handed in.
 // include/wickanchor.h declares them for C. Each function hands on what the crate of its subject answers, as crates c_datagrams, c_values
 // and c_capture put it, and its contract cites that crate's definition.
 ghost use mathlib.Core.Path.{_≡_};
@@ -34,13 +34,15 @@ ghost use Rattle.c_values.specs.Numbers.{flag, numberOut, lineOut, deviceOut};
 ghost use Rattle.c_values.specs.Filters.{filtersOut, filterOut};
 ghost use Rattle.c_values.specs.Books.{bookIn, bookOut, askedOut, repliedOut};
 ghost use Rattle.c_values.specs.Lines.{lineBy, readerIn, readerOut, fedOut, closedOut, positionOut};
-ghost use Rattle.c_capture.specs.Captures.{summaryIn, markIn, foundOut, openedOut, countedOut, EmptiesOut, AppendsAtOut, AppendsOut};
+ghost use Rattle.c_capture.specs.Captures.{summaryIn, markIn, foundOut, openedOut, countedOut, EmptiesOut, AppendsAtOut, AppendsOut, RunsOut, RunsAtOut};
 ghost use Rattle.c_capture.specs.Records.{recordOut};
 use c_capture::WickAppended;
 use c_capture::WickCapture;
 use c_capture::WickCounted;
 use c_capture::WickMark;
 use c_capture::WickOpened;
+use c_capture::WickRan;
+use c_capture::WickRanAt;
 use c_capture::WickRecord;
 use c_capture::WickSummary;
 use c_datagrams::WickAddress;
@@ -480,6 +482,40 @@ pub extern "C" fn wick_capture_append_at(
         c_capture::summary_in(summary),
         seconds,
         datagram,
+    ))
+}
+
+// Appends a run of events to a capture by the letter, each led by its length.
+#[no_mangle]
+pub extern "C" fn wick_capture_run(
+    buf: &mut [u8],
+    used: usize,
+    summary: WickSummary,
+    seconds: u32,
+    run: &[u8],
+) -> WickRan
+    ensures { λ w. ⌜ RunsOut (now (buf .entry)) used (summaryIn summary) seconds (now (run .entry)) w (now (buf .exit)) ⌝ }
+{
+    c_capture::ran_out(morning::run(buf, used, c_capture::summary_in(summary), seconds, run))
+}
+
+// Appends a run of events to a capture by a mark.
+#[no_mangle]
+pub extern "C" fn wick_capture_run_at(
+    buf: &mut [u8],
+    mark: WickMark,
+    summary: WickSummary,
+    seconds: u32,
+    run: &[u8],
+) -> WickRanAt
+    ensures { λ w. ⌜ RunsAtOut (now (buf .entry)) (markIn mark) (summaryIn summary) seconds (now (run .entry)) w (now (buf .exit)) ⌝ }
+{
+    c_capture::ran_at_out(morning::run_at(
+        buf,
+        c_capture::mark_in(mark),
+        c_capture::summary_in(summary),
+        seconds,
+        run,
     ))
 }
 

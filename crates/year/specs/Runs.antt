@@ -79,12 +79,12 @@ byMarks b m x (c ∷ cs) =
     l ∷ byMarks (l .buffer) (l .says .kept .mark) (l .says .kept .summary) cs
 
 -- one call by a mark that marks the buffer leaves what the call by the letter leaves, and a mark that marks the buffer left
-record Alike (b : List ℕ) (m : Mark) (x : Summary) (c : Call) : Type 0 where
-  same : plain (leavesAt b m x c) ≡ leaves b (m .used) x c
-  marks : Marks (leavesAt b m x c .buffer) (leavesAt b m x c .says .kept .mark)
-  bytes : Bytes (leavesAt b m x c .buffer)
+pub record Alike (b : List ℕ) (m : Mark) (x : Summary) (c : Call) : Type 0 where
+  pub same : plain (leavesAt b m x c) ≡ leaves b (m .used) x c
+  pub marks : Marks (leavesAt b m x c .buffer) (leavesAt b m x c .says .kept .mark)
+  pub bytes : Bytes (leavesAt b m x c .buffer)
 
-alike : (b : List ℕ) (m : Mark) (x : Summary) (c : Call) → Sound c → Bytes b → Marks b m → Alike b m x c
+pub alike : (b : List ℕ) (m : Mark) (x : Summary) (c : Call) → Sound c → Bytes b → Marks b m → Alike b m x c
 alike b m x c s h k = go (verdictAt b m x t d) refl
   where
     t : ℕ
