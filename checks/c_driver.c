@@ -574,6 +574,35 @@ static void capture_show(void) {
     time_("last", mark.has_last, mark.last);
 }
 
+/* All fields of a season, none of which a refused call may set */
+static void season_clear(struct wick_season x) {
+    if (x.occupied || x.presses || x.holds || x.has_longest || x.longest || x.total || x.gaps) printf(" NOT 0");
+}
+
+static void season(int i, struct wick_season x) {
+    plain(x.has_longest, x.longest);
+    number("season", (uint64_t)i + 1);
+    number("occupied", x.occupied);
+    number("presses", x.presses);
+    number("holds", x.holds);
+    time_("longest", x.has_longest, x.longest);
+    number("total", x.total);
+    number("gaps", x.gaps);
+}
+
+static void seasons(void) {
+    const uint8_t *b = g[0].bytes;
+    struct wick_corridor who = {{{0}}, four(b + 6), b[10]};
+    memcpy(who.mac.bytes, b, 6);
+    struct wick_boundaries boundaries = {four(b + 11), four(b + 15), four(b + 19)};
+    struct wick_seasons r = wick_capture_seasons(kept.bytes, kept.n, used, who, boundaries);
+    printf("%u", r.refusal);
+    for (int i = 0; i < WICK_SEASONS; i++) {
+        if (r.refusal) season_clear(r.seasons[i]);
+        else season(i, r.seasons[i]);
+    }
+}
+
 #define CALL(name) {#name, name}
 static const struct {
     const char *name;
@@ -589,6 +618,7 @@ static const struct {
     CALL(close_request), CALL(close_reply), CALL(show_request), CALL(show_reply), CALL(item_request), CALL(item_reply),
     CALL(capture_set), CALL(summary_set), CALL(mark_set), CALL(capture_empty), CALL(capture_append), CALL(capture_append_at),
     CALL(capture_run), CALL(capture_run_at), CALL(capture_open), CALL(capture_count), CALL(capture_prefix), CALL(capture_record), CALL(capture_show),
+    CALL(seasons),
 };
 #define CALLS (sizeof calls / sizeof *calls)
 

@@ -1,5 +1,5 @@
 // The header in C++: it compiles, its functions link, the scenes that it names are the last that requests take, the sizes and targets
-// that it names for each layout of events are the ends of theirs, and captures and runs of datagrams are as it says.
+// that it names for each layout of events are the ends of theirs, and captures, runs of datagrams and seasons are as it says.
 #include "wickanchor.h"
 
 // What writing a request with these arguments is refused with.
@@ -75,13 +75,47 @@ static bool runs(const layout &l, uint8_t version, uint64_t most) {
         && wick_capture_run_at(buf, sizeof buf, a.mark, a.summary, 7, run, length - 1).refusal == WICK_BAD_RECORD;
 }
 
+// Whether a season has these counts, and one gap of these seconds, or none.
+static bool season(const struct wick_season &s, uint64_t occupied, uint64_t presses, uint64_t holds, bool has_gap, uint32_t gap) {
+    return s.occupied == occupied && s.presses == presses && s.holds == holds && s.has_longest == has_gap && s.longest == gap && s.total == gap
+        && s.gaps == has_gap;
+}
+
+// Occupied events below a boundary, equal to it, above it, and equal to the next: each boundary is the first time of the later season, and
+// the one gap that lies in a season goes over a press. A hold lies above all boundaries. Another controller, target or instance has
+// nothing. Equal boundaries do not rise, and a capture cut short is refused before them.
+static bool seasons(const layout &l, uint8_t version) {
+    const struct wick_mac mac = {{0x7C, 0xBA, 0xCC, 0x2F, 0x40, 0x2E}}, other = {{0x7C, 0xBA, 0xCC, 0x2F, 0x40, 0x2F}};
+    const struct wick_corridor who = {mac, l.target, 5}, others[] = {{other, l.target, 5}, {mac, l.target - 1, 5}, {mac, l.target, 4}};
+    const struct wick_boundaries rise = {20, 30, 40}, low = {20, 20, 40}, high = {20, 40, 40};
+    const uint8_t kinds[] = {WICK_IS_OCCUPIED, WICK_IS_OCCUPIED, WICK_BUTTON_PRESS, WICK_IS_OCCUPIED, WICK_IS_OCCUPIED, WICK_BUTTON_HOLD};
+    const uint32_t seconds[] = {19, 20, 21, 27, 30, 41};
+    uint8_t event[WICK_EVENT_MOST], buf[WICK_CAPTURE_RECORDS_AT + sizeof kinds * WICK_RECORD_MOST];
+    struct wick_capture k = wick_capture_empty(version, buf, sizeof buf);
+    for (unsigned i = 0; i < sizeof kinds; i++) {
+        const uint64_t n = l.write(mac, l.target, kinds[i], &who.instance, 1, event, sizeof event).count;
+        k = wick_capture_append_at(buf, sizeof buf, k.mark, k.summary, seconds[i], event, n);
+    }
+    for (const struct wick_corridor &c : others) {
+        const struct wick_seasons none = wick_capture_seasons(buf, sizeof buf, k.mark.used, c, rise);
+        for (const struct wick_season &s : none.seasons)
+            if (none.refusal != WICK_OK || !season(s, 0, 0, 0, false, 0)) return false;
+    }
+    const struct wick_seasons r = wick_capture_seasons(buf, sizeof buf, k.mark.used, who, rise);
+    return k.refusal == WICK_OK && r.refusal == WICK_OK && season(r.seasons[0], 1, 0, 0, false, 0) && season(r.seasons[1], 2, 1, 0, true, 7)
+        && season(r.seasons[2], 1, 0, 0, false, 0) && season(r.seasons[WICK_SEASONS - 1], 0, 0, 1, false, 0)
+        && wick_capture_seasons(buf, sizeof buf, k.mark.used, who, low).refusal == WICK_NOT_RISING
+        && wick_capture_seasons(buf, sizeof buf, k.mark.used, who, high).refusal == WICK_NOT_RISING
+        && wick_capture_seasons(buf, sizeof buf, k.mark.used - 1, who, low).refusal == WICK_BAD_RECORD;
+}
+
 static bool layouts() {
     const layout three = {wick_event, wick_write_event, WICK_EVENT_LEAST, WICK_EVENT_MOST, WICK_EVENT_DATA_AT, WICK_EVENT_TARGET_MOST};
     const layout two = {wick_event_two, wick_write_event_two, WICK_EVENT_TWO_LEAST, WICK_EVENT_TWO_MOST, WICK_EVENT_TWO_DATA_AT,
                         WICK_EVENT_TWO_TARGET_MOST};
     return events(three) && events(two) && captures(three, WICK_CAPTURE_THREE, WICK_RECORD_MOST)
         && captures(two, WICK_CAPTURE_TWO, WICK_RECORD_TWO_MOST) && runs(three, WICK_CAPTURE_THREE, WICK_RECORD_MOST)
-        && runs(two, WICK_CAPTURE_TWO, WICK_RECORD_TWO_MOST);
+        && runs(two, WICK_CAPTURE_TWO, WICK_RECORD_TWO_MOST) && seasons(three, WICK_CAPTURE_THREE) && seasons(two, WICK_CAPTURE_TWO);
 }
 
 int main() {

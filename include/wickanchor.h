@@ -19,8 +19,9 @@
 /* Grows with each change of what is declared here, or of what the functions answer. 2: wick_name; names as text were a header of their own.
    3: command A1 takes scenes 13 to 15 (W-201). 4: events whose target has two bytes (W-206): wick_event_two, wick_write_event_two,
    wick_relay_event_two. 5: captures (W-207): the functions whose names begin with wick_capture, and refusals 14 to 16, which have names.
-   6: runs of datagrams (W-208): wick_capture_run, wick_capture_run_at. */
-#define WICKANCHOR_VERSION 6
+   6: runs of datagrams (W-208): wick_capture_run, wick_capture_run_at. 7: seasons of one corridor (W-213): wick_capture_seasons, and refusal
+   20, which has a name. */
+#define WICKANCHOR_VERSION 7
 
 #ifdef __cplusplus
 extern "C" {
@@ -50,13 +51,14 @@ extern "C" {
 #define WICK_NAME_MOST 33
 
 /* Of captures: where the first record begins, the bytes of a record in front of its datagram, the most bytes of a record in each layout of
-   events, how many counts a summary has, and the bytes in front of each datagram of a run */
+   events, how many counts a summary has, the bytes in front of each datagram of a run, and how many seasons there are */
 #define WICK_CAPTURE_RECORDS_AT 1
 #define WICK_RECORD_DATAGRAM_AT 6
 #define WICK_RECORD_MOST 68
 #define WICK_RECORD_TWO_MOST 67
 #define WICK_COUNTS 11
 #define WICK_RUN_DATAGRAM_AT 2
+#define WICK_SEASONS 4
 
 /* The last scene of WICK_DALI_SCENE, which takes all that DALI has, and of WICK_QUERY_SCENE_LABEL_FOR_GROUP */
 #define WICK_DALI_SCENE_MOST 15
@@ -84,7 +86,8 @@ enum wick_refusal {
     WICK_BAD_RECORD = 15,           /* cut short, of length under 4, of seconds below the one before, or whose datagram its layout refuses;
                                        also a capture of no version byte, or with more bytes in use than there are; also a run of
                                        datagrams that is cut short */
-    WICK_EARLIER_TIME = 16          /* seconds lower than the last record's */
+    WICK_EARLIER_TIME = 16,         /* seconds lower than the last record's */
+    WICK_NOT_RISING = 20            /* a boundary of seasons that is not above the one before */
 };
 
 /* The 32 commands, by the maker's names */
@@ -374,6 +377,35 @@ struct wick_record {
     uint64_t next;                  /* the place of the next record */
 };
 
+/* A corridor: the events of this controller, of this target and with this instance. No number is refused: where there are no such events, as
+   with a target too large for the capture's layout, all counts are 0. */
+struct wick_corridor {
+    struct wick_mac mac;
+    uint32_t target;
+    uint8_t instance;
+};
+
+/* Where the second, the third and the fourth season begin, in seconds. A time equal to a boundary belongs to the later season. */
+struct wick_boundaries {
+    uint32_t first, second, third;
+};
+
+/* One season of a corridor. A gap goes from one of its occupied events to the next, both in the season, whatever other events stand between
+   them; it may have 0 seconds. There is one gap less than there are occupied events, and none where there is no such event. The numbers of 64
+   bits never overflow: no capture has so many records. */
+struct wick_season {
+    uint64_t occupied;              /* events of type WICK_IS_OCCUPIED, whatever their data behind the instance */
+    uint64_t presses, holds;        /* events of type WICK_BUTTON_PRESS, and of type WICK_BUTTON_HOLD */
+    uint8_t has_longest;            /* 0: there is no gap, and longest is 0; else 1 */
+    uint32_t longest;               /* the longest gap, in seconds */
+    uint64_t total, gaps;           /* seconds of all gaps, and how many there are: the mean gap is total / gaps where gaps is not 0 */
+};
+
+struct wick_seasons {
+    uint8_t refusal;
+    struct wick_season seasons[WICK_SEASONS];
+};
+
 WICK_SIZE(struct wick_aim, 2);
 WICK_SIZE(struct wick_meaning, 8);
 WICK_SIZE(struct wick_address, 4);
@@ -400,6 +432,10 @@ WICK_SIZE(struct wick_ran_at, 104);
 WICK_SIZE(struct wick_opened, 24);
 WICK_SIZE(struct wick_counted, 64);
 WICK_SIZE(struct wick_record, 32);
+WICK_SIZE(struct wick_corridor, 16);
+WICK_SIZE(struct wick_boundaries, 12);
+WICK_SIZE(struct wick_season, 48);
+WICK_SIZE(struct wick_seasons, 200);
 
 /* Reads a request datagram. Refusals 1, 2, 3, 4, 5, 6, 7. */
 struct wick_request wick_request(const uint8_t *bytes, uint64_t length);
@@ -554,6 +590,13 @@ struct wick_capture wick_capture_prefix(const uint8_t *buf, uint64_t room, uint6
    before says `next`. The records before it are not looked at. Refusals 14, 15 (no version byte, or more in use than there is); 12 at the
    end of the bytes in use; 15 where no good record begins there. */
 struct wick_record wick_capture_record(const uint8_t *buf, uint64_t room, uint64_t used, uint64_t place);
+
+/* The four seasons of one corridor: the first has all times below `first`, the last all from `third` on. What is counted as occupied, presses
+   or holds adds up, over the four, to all such events of the corridor in the capture. One pass over the bytes in use, whatever the corridor
+   and the boundaries. Refusals 14, 15; then 20 where `first` is not below `second`, or `second` not below `third`. examples/seasons.c prints
+   them of a file. */
+struct wick_seasons wick_capture_seasons(const uint8_t *buf, uint64_t room, uint64_t used, struct wick_corridor who,
+                                         struct wick_boundaries boundaries);
 
 #ifdef __cplusplus
 }

@@ -66,8 +66,8 @@ def reply(type_, sequence, data):
     return summed(bytes([type_, sequence, len(data)]) + data)
 
 
-def event(target, type_, data, width=3):
-    return summed(b"\x5A\x43" + MAC + wide(target, width) + bytes([type_, len(data)]) + data)
+def event(target, type_, data, width=3, mac=MAC):
+    return summed(b"\x5A\x43" + mac + wide(target, width) + bytes([type_, len(data)]) + data)
 
 
 # Numbers by chance
@@ -1712,6 +1712,441 @@ def runs():
         yield from part
 
 
+# W-213: four seasons of one corridor
+
+PRESS, HOLD, OCCUPIED = 0, 1, 6
+COUNTED = [OCCUPIED, PRESS, HOLD]
+
+# The corridor, and three boundaries. The target's bytes differ, in both layouts.
+INSTANCE = 5
+RISING = (1000, 2000, 3000)
+
+
+def corridor_target(width):
+    return 0x0A0B0C % 256 ** width
+
+
+def seasons(target, boundaries=RISING, mac=MAC, instance=INSTANCE):
+    return call("seasons", mac + wide(target, 4) + bytes([instance]) + b"".join(wide(boundary, 4) for boundary in boundaries))
+
+
+def happened(width, seconds, type_=OCCUPIED, mac=MAC, target=None, data=bytes([INSTANCE])):
+    """A record of the corridor, or of a neighbour that differs in what is given."""
+    return record(seconds, event(corridor_target(width) if target is None else target, type_, data, width, mac))
+
+
+def occupied_at(width, times):
+    return [happened(width, seconds) for seconds in times]
+
+
+def year_handed_in(version, records, room=0):
+    """A capture of these records, all in use, with so many bytes behind it."""
+    run = bytes([version]) + b"".join(records)
+    return capture_set(len(run), spare(run, room))
+
+
+def asked(version, width, records, boundaries=RISING):
+    """A capture of these records, and its corridor's seasons."""
+    return [year_handed_in(version, records), seasons(corridor_target(width), boundaries)]
+
+
+def in_order(records):
+    """The records by their seconds; those of equal seconds stay as they come."""
+    return sorted(records, key=lambda run: run[2:6])
+
+
+def rising_of(values):
+    """Every three of the values that rise, the values rising too."""
+    return [three for three in subsets(values) if len(three) == 3]
+
+
+def flipped(run, place, bits):
+    """The run with these bits of one byte turned."""
+    return replaced(run, place, run[place] ^ bits)
+
+
+# Times and boundaries
+
+def times_about_boundaries():
+    """Each counted type: one event below, at and above each boundary; then all nine in one capture, and boundaries moved by one."""
+    for version, width in VERSIONS:
+        target = corridor_target(width)
+        for type_ in COUNTED:
+            yield year_handed_in(version, [happened(width, 2000, type_)])
+            for about in [1999, 2000, 2001]:
+                yield from [seasons(target, three) for three in [(about, 3000, 4000), (1000, about, 3000), (0, 1000, about)]]
+            yield year_handed_in(version, [happened(width, boundary + step, type_) for boundary in RISING for step in [-1, 0, 1]], 9)
+            for moved in range(27) if type_ == OCCUPIED else [0, 8, 13, 18, 26]:
+                steps = [moved // 9 - 1, moved // 3 % 3 - 1, moved % 3 - 1]
+                yield seasons(target, [boundary + step for boundary, step in zip(RISING, steps)])
+
+
+# The boundaries of the longest first, second, third and fourth season.
+ENDS = [(COUNT_MOST - 2, COUNT_MOST - 1, COUNT_MOST), (0, COUNT_MOST - 1, COUNT_MOST), (0, 1, COUNT_MOST), (0, 1, 2)]
+
+
+def times_at_the_ends():
+    """Times and boundaries at both ends of 32 bits; the longest gap that three rising boundaries leave in one season is 4294967293."""
+    most = COUNT_MOST
+    values = [0, 1, 3, 2 ** 31, most - 1, most]
+    for number, times in enumerate([[0], [most], [0, most], [0, 0, most, most], [0, 1, 2, most - 2, most - 1, most],
+                                    [0, most - 3, most - 2], [1, most - 1], [2, 2 ** 31 - 1, 2 ** 31, most]]):
+        version, width = VERSIONS[number % 2]
+        types = COUNTED if number < 2 else [OCCUPIED]
+        yield year_handed_in(version, [happened(width, seconds, type_) for seconds in times for type_ in types])
+        yield from [seasons(corridor_target(width), three) for three in rising_of(values)[number % 3::3] + ENDS]
+
+
+def wide_boundaries():
+    """Boundaries and times whose order hangs on one byte: high byte first and low byte first, with and without a sign."""
+    rises = [(255, 256, 65536), (0xFF, 0x0100, 0x0201), (0x00FFFFFF, 0x01000000, 0x02000000), (0x7FFFFFFF, 0x80000000, 0xFFFFFFFF),
+             (0x01000002, 0x02000001, 0x03000000), (0x00010000, 0x00010001, 0x00010100), (5, 0x80000000, 0x80000001)]
+    for number, three in enumerate(rises):
+        version, width = VERSIONS[number % 2]
+        times = sorted(boundary + step for boundary in three for step in [-1, 0])
+        yield year_handed_in(version, occupied_at(width, times))
+        yield from [seasons(corridor_target(width), order) for order in
+                    [three, three[::-1], (three[0], three[2], three[1]), (three[1], three[0], three[2]), (three[1], three[2], three[0])]]
+
+
+# Occupied events and their gaps
+
+def few_occupied():
+    """Six occupied events with gaps that are all different: growing, shrinking, the longest in the middle; every three boundaries that part
+    them, on a time and between two."""
+    for number, times in enumerate([[100, 102, 106, 114, 130, 162], [100, 132, 148, 156, 160, 162], [100, 104, 120, 184, 192, 194]]):
+        version, width = VERSIONS[number % 2]
+        edges = [seconds + 1 if place % 2 == version - 1 else seconds for place, seconds in enumerate(times)]
+        yield year_handed_in(version, occupied_at(width, times), 5)
+        yield from [seasons(corridor_target(width), three) for three in rising_of(edges + [200])]
+
+
+def counts_in_seasons():
+    """Each season with 0, 1, 2 and 3 occupied events, the others with other counts."""
+    for number in range(0, 64, 3):
+        counts = [number // 16, number // 4 % 4, number % 4, (number + number // 4 + number // 16) % 4]
+        version, width = VERSIONS[(number + number // 4) % 2]
+        times = [1000 * season + place * (place + season + 1) for season, count in enumerate(counts) for place in range(count)]
+        yield from asked(version, width, occupied_at(width, times))
+
+
+def equal_times():
+    """Gaps of 0 seconds, alone and beside others; the longest is 0, and absent where there is none."""
+    for number, times in enumerate([[2000], [2000, 2000], [2000] * 3, [2000, 2000, 2001], [1999, 2000, 2000], [1999, 1999, 2000, 2000],
+                                    [1999, 2000, 2000, 2007, 2007], [0, 0], [COUNT_MOST] * 2]):
+        version, width = VERSIONS[number % 2]
+        yield year_handed_in(version, occupied_at(width, times))
+        yield from [seasons(corridor_target(width), three) for three in
+                    [(1999, 3000, 4000), (1000, 2000, 3000), (500, 1000, 2001), (10, 20, 30), (2000, 2001, 2002)]]
+
+
+def gaps_across_boundaries():
+    """An occupied event in one season and the next in the same one or a later one; alone, and with one more before or behind."""
+    begins = [0, 1000, 2000, 3000]
+    turn = 0
+    for first in range(4):
+        for last in range(first, 4):
+            for near in [True, False]:
+                version, width = VERSIONS[turn % 2]
+                turn += 1
+                if near and first < last:
+                    times = [begins[first + 1] - 1, begins[last]]
+                else:
+                    times = [begins[first] + 3, begins[last] + 988]
+                for more in [[], [[max(begins[first], times[0] - 7)], [times[1] + 5]][turn // 2 % 2]]:
+                    yield from asked(version, width, occupied_at(width, sorted(times + more)))
+
+
+def longest_gaps():
+    """The longest gap first, in the middle and last, and twice, in each season; and a longer one in the season before or behind."""
+    for season in range(4):
+        for number, gaps in enumerate([[9, 5, 1], [5, 9, 1], [1, 5, 9], [5, 1, 9], [9, 1, 9], [9, 9, 1], [0, 9, 0], [1, 1, 1]]):
+            version, width = VERSIONS[(season + number) % 2]
+            times = [1000 * season + 100 + sum(gaps[:place]) for place in range(len(gaps) + 1)]
+            other = 1000 * (season + 1 if season < 3 else 0) + 100
+            yield from asked(version, width, occupied_at(width, sorted(times + ([other, other + 50 + number] if number % 2 else []))))
+
+
+# What is not the corridor's
+
+def other_types_between():
+    """Events of the corridor of each type between its occupied ones, at their times and between them: gaps stay, types 0 and 1 count."""
+    for version, width in VERSIONS:
+        for type_ in [0, 1, 2, 3, 4, 5, 7, 8, 9, 10, 70, 134, 255]:
+            others = [happened(width, seconds, type_) for seconds in [1990, 2000, 2005, 2010, 2020, 3500]]
+            ours = occupied_at(width, [1990, 2000, 2010, 2030])
+            for records in [in_order(others + ours), in_order(ours + others) if type_ % 2 == version - 1 else others]:
+                yield from asked(version, width, records)
+        # every type, without data too where the type may have none, and one occupied event before and behind
+        types = [happened(width, 1500 + type_, type_) for type_ in range(20) if type_ != OCCUPIED]
+        types += [happened(width, 1600, type_, data=b"") for type_ in [3, 4, 5, 8, 9, 10, 255]]
+        yield from asked(version, width, types)
+        yield from asked(version, width, occupied_at(width, [1400]) + types + occupied_at(width, [1700]))
+
+
+def neighbours(width):
+    """What differs from the corridor in one place: MAC, target, instance, each byte in one bit or another, and bytes exchanged."""
+    target = corridor_target(width)
+    for place in range(6):
+        yield from [(flipped(MAC, place, bits), target, INSTANCE) for bits in ([0x01, 0x80] if width == 3 else [0x10])]
+    yield from [(MAC[::-1], target, INSTANCE), (MAC[1:] + MAC[:1], target, INSTANCE), (MAC[:4] + MAC[5:] + MAC[4:5], target, INSTANCE)]
+    for place in range(width):
+        yield from [(MAC, target ^ bit << 8 * place, INSTANCE) for bit in [0x01, 0x80]]
+    yield (MAC, opinion.low_first(wide(target, width)), INSTANCE)
+    yield from [(MAC, target, INSTANCE ^ bit) for bit in [0x01, 0x02, 0x04, 0x08, 0x10]]
+
+
+def neighbours_between():
+    """Each neighbour's events of the three types between the corridor's; both are asked for."""
+    for version, width in VERSIONS:
+        target = corridor_target(width)
+        for mac, other, instance in neighbours(width):
+            theirs = [happened(width, seconds, type_, mac, other, bytes([instance]))
+                      for seconds, type_ in [(1003, 6), (1010, 0), (1011, 1), (1017, 6), (2500, 6), (2501, 0), (2504, 6)]]
+            ours = occupied_at(width, [1000, 1008, 1030, 2000, 2502]) + [happened(width, 1012, 1), happened(width, 2600, 0)]
+            yield year_handed_in(version, in_order(theirs + ours))
+            yield from [seasons(target), seasons(other, RISING, mac, instance)]
+        # all of them in one capture, at one time each
+        crowd = [happened(width, 1010 + place, [6, 0, 1][place % 3], mac, other, bytes([instance]))
+                 for place, (mac, other, instance) in enumerate(neighbours(width))]
+        yield year_handed_in(version, occupied_at(width, [1000]) + crowd + occupied_at(width, [1100, 1200]))
+        yield seasons(target)
+        yield from [seasons(other, RISING, mac, instance) for mac, other, instance in list(neighbours(width))[::version]]
+
+
+def strangers():
+    """A corridor that nothing in the capture is of: each byte of MAC, target and instance changed in the call; and an empty capture."""
+    for version, width in VERSIONS:
+        yield year_handed_in(version, [happened(width, seconds, type_) for seconds in [999, 1000, 2222, 3000, 3001] for type_ in COUNTED])
+        corridor = MAC + wide(corridor_target(width), 4) + bytes([INSTANCE])
+        for asked_for in [corridor] + [flipped(corridor, place, bits) for place in range(11) for bits in [0x01, 0x80]]:
+            yield seasons(opinion.high_first(asked_for[6:10]), RISING, asked_for[:6], asked_for[10])
+        yield from asked(version, width, []) + [seasons(0, (0, 1, 2), bytes(6), 0)]
+
+
+def targets_of_corridors():
+    """Targets at the ends of each layout and beyond it, where a part of the number is an event's."""
+    for version, width in VERSIONS:
+        most = 256 ** width - 1
+        kept = [0, 59, 255, 256, most - 255, most]
+        yield year_handed_in(version, [happened(width, 500 * number, [6, 6, 0, 6, 1][number % 5], target=target)
+                                       for number in range(9) for place, target in enumerate(kept) if number < 3 + place])
+        over = [most + 1, most + 1 + 59, 2 * most + 1, 2 ** 31, 2 ** 32 - 1, 59 << 8, 59 << 16, 59 << 24, 0xFF00 << 16, 2 ** 24, 2 ** 16]
+        yield from [seasons(target) for target in kept + [1, 58] + over]
+
+
+def instances_of_corridors():
+    """Each instance up to 31, and instances over 31, of which a part of the number is an event's."""
+    for version, width in VERSIONS:
+        yield year_handed_in(version, [happened(width, 60 * instance + 7 * number, [6, 0, 1][instance % 3], data=bytes([instance]))
+                                       for instance in range(32) for number in range(1 + (instance + version) % 2)])
+        asked_for = list(range(0, 32, version)) + [30, 31, 32, 33, 63, 64, 95, 127, 128, 159, 224, 254, 255]
+        yield from [seasons(corridor_target(width), instance=instance) for instance in asked_for]
+
+
+def instances_over_31():
+    """Events that carry a number over 31 where the instance stands: they are that instance's, and no other's."""
+    for version, width in VERSIONS:
+        carried = [31, 32, 37, 64, 128, 133, 255]
+        yield year_handed_in(version, [happened(width, 1000 + 10 * place + 100 * number, type_, data=bytes([instance]))
+                                       for number in range(2) for place, instance in enumerate(carried) for type_ in [6, [0, 1][number]]])
+        yield from [seasons(corridor_target(width), instance=instance) for instance in carried + [0, 5]]
+
+
+def longer_data():
+    """Data behind the instance, also where it looks like one; "occupied" counts whatever the byte behind says."""
+    for version, width in VERSIONS:
+        own = [bytes([INSTANCE]) + more for more in [b"", b"\x00", b"\x01", b"\xFF", bytes([INSTANCE]), pattern(9), pattern(47)]]
+        others = [bytes([INSTANCE ^ 1]) + more for more in [b"", bytes([INSTANCE]), bytes([INSTANCE] * 3), pattern(9), pattern(47)]]
+        for type_ in COUNTED:
+            yield year_handed_in(version, [happened(width, 1000 + place ** 2, type_, data=data) for place, data in enumerate(own + others)])
+            yield from [seasons(corridor_target(width), instance=instance) for instance in [INSTANCE, INSTANCE ^ 1, 0, 1, 2, 8]]
+
+
+def both_layouts():
+    """Frames that are occupied events in both layouts, of another target and instance in each."""
+    frames = [event(0x0B0C06, 6, bytes([instance, 1, 2, 3, 4])) for instance in [5, 5, 4, 5]]
+    for version, width in VERSIONS:
+        yield year_handed_in(version, [record(1500 + 7 * place * place, frame) for place, frame in enumerate(frames)])
+        yield from [seasons(target, instance=instance) for target in [0x0B0C06, 0x0B0C, 0x0C06] for instance in [5, 4, 1]]
+
+
+# Refusals
+
+# Every order that three numbers can have.
+ORDERS = [(10, 20, 30), (10, 30, 20), (20, 10, 30), (20, 30, 10), (30, 10, 20), (30, 20, 10), (10, 10, 20), (20, 20, 10), (10, 20, 20),
+          (20, 10, 10), (10, 20, 10), (20, 10, 20), (10, 10, 10)]
+
+
+def boundaries_of_every_order():
+    """Over good captures: every order, one second apart, and three of a few values."""
+    for version, width in VERSIONS:
+        target = corridor_target(width)
+        yield year_handed_in(version, occupied_at(width, [5, 9, 10, 11, 19, 20, 29, 30, 31, 40]))
+        yield from [seasons(target, order) for order in ORDERS]
+        yield from [seasons(target, [9 + number // 10 for number in order]) for order in ORDERS]
+        yield from [seasons(target, order, bytes(6), 255) for order in ORDERS[::4]]
+        ends = [0, 20, COUNT_MOST] if version == 1 else [COUNT_MOST - 1, COUNT_MOST]
+        yield from [seasons(target, (first, second, third)) for first in ends for second in ends for third in ends]
+        yield year_handed_in(version, [])
+        yield from [seasons(target, order) for order in ORDERS[::3]]
+
+
+def refused_claims():
+    """No buffer, none in use, unknown versions and more in use than there is, with boundaries of every order."""
+    turn = 0
+    for version, width in VERSIONS + [(version, 3) for version in UNKNOWN_VERSIONS]:
+        run = bytes([version]) + b"".join(occupied_at(width, [5, 15, 25]))
+        more = len(run) + 1
+        for used, buffer in [(0, run), (more, run), (USE_MOST, run), (len(run), run), (1, run), (0, b""), (1, b"")]:
+            turn += 1
+            every = (version, used) in [(1, 0), (1, more), (3, len(run))] and buffer
+            yield capture_set(used, buffer)
+            yield from [seasons(corridor_target(width), order) for order in (ORDERS if every else [ORDERS[0], ORDERS[turn % 12 + 1]])]
+
+
+def refused_records():
+    """Each bad record, first, between and last in turn, with boundaries that rise and that do not; and with an unknown version."""
+    for version, width in VERSIONS:
+        good = occupied_at(width, [12, 15])
+        bads = list(bad_records(width, 12, 12)) + [replaced(good[0], len(good[0]) - 1, good[0][-1] ^ 0x01), happened(width, 12, data=b"")]
+        for number, bad in enumerate(bads):
+            place = 1 + number % 2 if version == 1 else [0, 2][number % 2]
+            yield year_handed_in(version, good[:place] + [bad] + good[place:], 4)
+            orders = ORDERS if number % 2 == version - 1 else [ORDERS[0], ORDERS[1 + number % 12]]
+            yield from [seasons(corridor_target(width), order) for order in orders]
+            if number % 3 == version:
+                yield year_handed_in(UNKNOWN_VERSIONS[number // 3 % 3], [bad])
+                yield from [seasons(corridor_target(width), order) for order in [ORDERS[0], ORDERS[1 + number % 12]]]
+
+
+def torn_records():
+    """A capture whose last record is cut after every byte: what is in use, or what there is."""
+    for version, width in VERSIONS:
+        run = bytes([version]) + b"".join(occupied_at(width, [12, 15, 22]))
+        size = len(happened(width, 0))
+        for cut in range(len(run) - size, len(run) + 1):
+            yield capture_set(cut, [run[:cut], run][cut % 2])
+            yield from [seasons(corridor_target(width), order) for order in [ORDERS[0], ORDERS[1 + cut % 12]]]
+
+
+# What is in use, and what is carried
+
+def parts_in_use():
+    """Bytes in use that end at each record, where others of the corridor stand behind; summaries and marks of every kind beside them."""
+    for version, width in VERSIONS:
+        records = [happened(width, 900 + 90 * place, [6, 6, 0, 6, 1, 7][place % 6]) for place in range(30)]
+        run = bytes([version]) + b"".join(records)
+        yield SOME_SUMMARY
+        for number, end in enumerate(starts(records)[::3]):
+            yield from [capture_set(end, run), mark_set([1, len(run), USE_MOST][number % 3], [None, 0, COUNT_MOST][number // 3 % 3])]
+            yield seasons(corridor_target(width))
+            if number % 5 == 0:
+                yield from ["capture_show", seasons(corridor_target(width), (990, 1350, 1351)), seasons(1, (3, 2, 1)), "capture_show"]
+
+
+def nothing_moves():
+    """Captures that grow: the seasons asked for behind each append and each run, of both ways; and shown before and behind."""
+    for (version, width), way, run_way in zip(VERSIONS, APPENDS, RUNS[::-1]):
+        target = corridor_target(width)
+        yield from fresh_capture(version, 330) + [seasons(target)]
+        for place, seconds in enumerate([0, 998, 999, 999, 1000, 1500, 1400, 2000, 2999, 2999, 3000, COUNT_MOST]):
+            type_ = [6, 6, 0, 6, 1][place % 5]
+            yield from [way(seconds, event(target, type_, bytes([INSTANCE]), width)), seasons(target)]
+        yield from ["capture_show", seasons(target, (2000, 1000, 3000)), seasons(target, (1, 2, 3)), "capture_show", "capture_count"]
+        yield from fresh_capture(version, 260)
+        for seconds in [7, 1000, 999, 1600, 3000]:
+            datagrams = [event(target, type_, bytes([INSTANCE]), width) for type_ in [6, 0, 7]] + [b"", other_layout(width)]
+            yield from [run_way(seconds, led(datagrams)), seasons(target)]
+        yield from ["capture_show", "capture_prefix", seasons(target), "capture_open", seasons(target), "capture_show"]
+
+
+def prefixes():
+    """A capture with a torn end: refused, and counted once its prefix is kept."""
+    for version, width in VERSIONS:
+        run = bytes([version]) + b"".join(occupied_at(width, [100, 700, 1001, 2001, 2900]))
+        for cut in [1, 20, 45]:
+            yield from [capture_set(len(run), run[:-cut] + pattern(cut)), seasons(corridor_target(width)), "capture_show", "capture_prefix"]
+            yield from [seasons(corridor_target(width)), "capture_show"]
+
+
+# Whole years
+
+def some_year(chance, width, count):
+    """Seconds, MAC, target, type and data of events, among few corridors, most of them of the types that count."""
+    target = corridor_target(width)
+    macs, targets = [MAC, flipped(MAC, chance.below(6), 1 << chance.below(8))], [target, target ^ 1 << chance.below(8 * width)]
+    instances = [INSTANCE, chance.below(32)]
+    seconds = chance.pick([0, 1, 1000, 2 ** 31 - 100, COUNT_MOST - 60000])
+    for _ in range(count):
+        seconds = min(COUNT_MOST, seconds + chance.pick([0, 0, 1, 1, 2, 7, 60, 61, 3600]))
+        mac, other, instance = (choices[chance.one_in(6)] for choices in [macs, targets, instances])
+        type_ = chance.pick([6, 6, 6, 6, 0, 1, 7, 2, chance.below(13), chance.below(256)])
+        yield seconds, mac, other, type_, bytes([instance]) + chance.run(chance.pick([0, 0, 0, 1, 2]))
+
+
+def year_records(width, year):
+    return [happened(width, seconds, type_, mac, target, data) for seconds, mac, target, type_, data in year]
+
+
+def some_boundaries(chance, year):
+    """Three boundaries that rise, most of them at or beside a time of the year."""
+    found = set()
+    while len(found) < 3:
+        seconds = chance.pick(year)[0] + chance.pick([0, 0, 0, 1, -1, 2, 30, -30, 3600])
+        found.add(min(COUNT_MOST, max(0, seconds + chance.pick([0, 0, chance.below(5)]))))
+    return sorted(found)
+
+
+def some_corridor(chance, year):
+    """MAC, target and instance of an event of the year."""
+    _, mac, target, _, data = chance.pick(year)
+    return mac, target, data[0]
+
+
+def years_in_seasons():
+    """Years by chance, each asked for several of its corridors and boundaries, some of which do not rise."""
+    chance = Chance(13)
+    for number in range(36):
+        version, width = VERSIONS[number % 2]
+        year = list(some_year(chance, width, 12 + chance.below(40)))
+        yield year_handed_in(version, year_records(width, year), chance.below(8))
+        for place in range(8):
+            mac, target, instance = (MAC, corridor_target(width), INSTANCE) if place < 4 else some_corridor(chance, year)
+            boundaries = some_boundaries(chance, year)
+            if chance.one_in(12):
+                boundaries = [chance.pick(boundaries) for _ in range(3)]
+            yield seasons(target, boundaries, mac, instance)
+
+
+def longest_years():
+    """As many records as the longest buffer holds: of one corridor, and of two in turn."""
+    for version, width in VERSIONS:
+        target = corridor_target(width)
+        most = 1299 // len(happened(width, 0))
+        alone = occupied_at(width, [place * (place + 1) for place in range(most)])
+        turns = [happened(width, 50 * place, target=target ^ place % 2) for place in range(most)]
+        for records in [alone, turns, [happened(width, 7, type_) for type_ in (COUNTED * most)[:most]], [happened(width, 2500)] * most]:
+            yield year_handed_in(version, records, 1299 - most * len(records[0]))
+            yield from [seasons(target), seasons(target ^ 1), seasons(target, (100, 150, 2450)), seasons(target, (7, 8, 2501)), seasons(0)]
+
+
+def name_of_not_rising():
+    """The name of the refusal, and of the numbers beside it, into buffers of every size about it."""
+    for number in range(19, 22):
+        for size in range(8, 13):
+            yield call("name", [0, number], pattern(size))
+
+
+def four_seasons():
+    for part in [times_about_boundaries(), times_at_the_ends(), wide_boundaries(), few_occupied(), counts_in_seasons(), equal_times(),
+                 gaps_across_boundaries(), longest_gaps(), other_types_between(), neighbours_between(), strangers(), targets_of_corridors(),
+                 instances_of_corridors(), instances_over_31(), longer_data(), both_layouts(), boundaries_of_every_order(),
+                 refused_claims(), refused_records(), torn_records(), parts_in_use(), nothing_moves(), prefixes(), years_in_seasons(),
+                 longest_years(), name_of_not_rising()]:
+        yield from part
+
+
 # Lines that are no call
 
 def filled(line, size):
@@ -1730,6 +2165,7 @@ LONG_LINES = [
     "feed_reply" + " 00" * 1361, "close_reply",
     filled("capture_run 00 00 00 07 /" + " 00" * 1356, 4095), filled("capture_run 00 00 00 07 /" + " 00" * 1356, 4096),
     filled("capture_run_at 00 00 00 07 /" + " 00" * 1355, 4096),
+    filled("seasons" + " 00" * 23, 4095), filled("seasons" + " 00" * 23, 4096),
 ]
 
 # By the rows of the table, from its first.
@@ -1784,6 +2220,10 @@ NO_CALLS = [
     "capture_run_at", "capture_run_at 00 00 00 01", "capture_run_at 00 00 00 01 / 00 00 / 00 00", "capture_run_at / /",
     "capture_run /", "capture_run / 00 00", "capture_run 00 00 01 / 00 00", "capture_run 00 00 00 00 01 /",
     "capture_run_at /", "capture_run_at / 00 00", "capture_run_at 00 00 01 / 00 00", "capture_run_at 00 00 00 00 01 /",
+    "season", "Seasons", "SEASONS" + " 00" * 23, "seasonss", "capture_seasons", "seasons_", "four_seasons",
+    "seasons" + " 00" * 22 + " 0", "seasons" + " 00" * 22 + " zz", "seasons 7C:BA:CC:2F:40:2E",
+    "seasons /", "seasons" + " 00" * 23 + " /", "seasons" + " 00" * 11 + " /" + " 00" * 12, "seasons" + " 00" * 23 + " /" + " 00" * 23,
+    "seasons", "seasons 00", "seasons" + " 00" * 11, "seasons" + " 00" * 22, "seasons" + " 00" * 24, "seasons" + " 00" * 46,
     "help 00", "help /", "help zz", "Help", "helps", "name 01 01", "name 01 / 00", "name 01 01 01 / 00",
 ]
 
@@ -1797,6 +2237,8 @@ CALLS_SET_OTHERWISE = [
     "capture_append_at 00 00 00 07 / 5a 43 7c ba cc 2f 40 2e 00 00 3b 03 00 6a", "capture_prefix", "capture_record 00 00 00 00 00 00 00 01",
     "  capture_run  00 00 00 07  /  00 0e  5a 43 7c ba cc 2f 40 2e 00 00 3b 03 00 6a  00 00 ", "capture_run 00 00 00 07 /", "capture_open",
     " capture_run_at  00 00 00 08 / 00 0e 5a 43 7C bA Cc 2f 40 2e 00 00 3b 03 00 6A", "capture_run_at 00 00 00 07 / ", "capture_show",
+    "  seasons  7c ba cc 2f 40 2e  00 00 00 3b  05  00 00 00 07  00 00 00 08  00 00 00 0a  ",
+    " seasons 7C bA Cc 2f 40 2e 00 00 00 3b 05 00 00 00 0a 00 00 00 0A 00 00 00 0b",
 ]
 
 # What the run carries, set before the lines that are no call and shown behind them.
@@ -1829,6 +2271,7 @@ KINDS = [
     ("events of two target bytes (W-206)", two_byte_targets),
     ("captures (W-207)", captures),
     ("runs of datagrams (W-208)", runs),
+    ("seasons of corridors (W-213)", four_seasons),
     ("lines that are no call", no_calls),
 ]
 

@@ -660,6 +660,45 @@ def appended_singly(append, seconds, datagrams):
     return len(datagrams) - refused, refused
 
 
+# Four seasons of one corridor (document 02, W-213): "From a capture, one controller MAC, one target and one instance, plus three rising
+# season boundaries in seconds, report for each of the four seasons: occupied events (type 6), button presses (0), holds (1), and the
+# longest gap in seconds".
+
+PRESS = 0
+HOLD = 1
+OCCUPIED = 6
+
+TIMES_END = 2 ** 32  # seconds in four bytes
+
+Corridor = namedtuple("Corridor", "mac target instance")
+Season = namedtuple("Season", "occupied presses holds longest total gaps")  # gaps: how many; longest: None where there is none
+
+
+# "For each of the three the seasons' counts add up to that instance's over the whole capture." The target is compared as a number, so one
+# too large for the layout is no event's. So is the instance: document 01 gives an event's instance no range, and one over 31 is counted
+# where events carry it.
+def times_in(width, records, corridor, type_):
+    """The times of the corridor's events of this type, in order."""
+    events = [(record.seconds, read_event(width, record.datagram)) for record in records if record.type == type_]
+    return [seconds for seconds, event in events if (event.mac, event.target, event_instance(event)) == corridor]
+
+
+# "A time equal to a boundary belongs to the later season."
+def stretches(boundaries):
+    """The times of each of the four seasons."""
+    edges = [0] + boundaries + [TIMES_END]
+    return [range(first, end) for first, end in zip(edges, edges[1:])]
+
+
+# "From one occupied event to the next, both lying in it (absent if there are fewer than two)." "The mean gap is given as two whole numbers,
+# total and count of gaps (0 and 0 if none)." A gap of 0 seconds is one.
+def season_in(stretch, occupied, presses, holds):
+    """One season of the corridor, of all its times."""
+    occupied, presses, holds = ([seconds for seconds in times if seconds in stretch] for times in [occupied, presses, holds])
+    gaps = [later - earlier for earlier, later in zip(occupied, occupied[1:])]
+    return Season(len(occupied), len(presses), len(holds), max(gaps) if gaps else None, sum(gaps), len(gaps))
+
+
 class Capture:
     """A buffer, its bytes in use as they are claimed, a summary and a mark. At first, a buffer of no bytes."""
 
@@ -740,6 +779,14 @@ class Capture:
         refuse(12, place == self.used)
         refuse(15, place < VERSION_SIZE)
         return record_at(width, self.buffer[:self.used], place)
+
+    # "Refusals: 14 and 15 as before, then 20 for boundaries that do not rise." Equal ones do not rise.
+    def seasons(self, corridor, boundaries):
+        """The four seasons of a corridor, from all records. Nothing moves."""
+        records = records_in(self.buffer, self.used)
+        refuse(20, any(later <= earlier for earlier, later in zip(boundaries, boundaries[1:])))
+        times = [times_in(VERSIONS[self.buffer[0]], records, corridor, type_) for type_ in [OCCUPIED, PRESS, HOLD]]
+        return [season_in(stretch, *times) for stretch in stretches(boundaries)]
 
 
 # The calls of docs/BENCH.md: words and groups
@@ -878,11 +925,17 @@ def record_fields(record):
     return ["seconds", record.seconds, "datagram", record.datagram, "next", record.next]
 
 
+def season_fields(number, season):
+    return ["season", number, "occupied", season.occupied, "presses", season.presses, "holds", season.holds,
+            "longest", time_field(season.longest), "total", season.total, "gaps", season.gaps]
+
+
 # The groups of the calls on the capture
 
 CAPTURE_BUFFER_MOST = 1300
 SUMMARY_SIZE = 58  # records in 4; flag and first in 4; flag and last in 4; eleven counts in 4
 MARK_SIZE = 13  # bytes in use in 8; flag and last in 4
+SEASONS_SIZE = 23  # MAC in 6, target in 4, instance, three boundaries in 4 each
 
 
 # "A flag byte: 00 is no (absent), every other byte is yes. What stands behind a flag of 00 counts for nothing."
@@ -900,6 +953,16 @@ def summary_of(group):
 def mark_of(group):
     """The mark of its 13 bytes."""
     return Mark(high_first(group[:8]), time_of(group[8:]))
+
+
+def corridor_of(group):
+    """The corridor of the first 11 of the 23 bytes."""
+    return Corridor(group[:6], high_first(group[6:10]), group[10])
+
+
+def boundaries_of(group):
+    """The three boundaries behind it."""
+    return [high_first(group[at:at + 4]) for at in range(11, SEASONS_SIZE, 4)]
 
 
 # "Reading a written frame gives its fields back; writing a frame that was read gives its bytes back": a relay reads a
@@ -946,7 +1009,7 @@ ERROR_CODE_NAMES = {
 REFUSAL_NAMES = {
     0: "OK", 1: "TOO_SHORT", 2: "BAD_LEAD", 3: "UNKNOWN_COMMAND", 4: "BAD_LENGTH_BYTE", 5: "BAD_LENGTH", 6: "BAD_SUM",
     7: "BAD_ARGUMENT", 8: "NO_ROOM", 9: "NO_NUMBER_FREE", 10: "NOT_AWAITED", 11: "BAD_DATA_SIZE", 12: "NONE_THERE",
-    14: "UNKNOWN_VERSION", 15: "BAD_RECORD", 16: "EARLIER_TIME",
+    14: "UNKNOWN_VERSION", 15: "BAD_RECORD", 16: "EARLIER_TIME", 20: "NOT_RISING",
 }
 
 KIND_NAMES = [
@@ -1148,6 +1211,10 @@ class Bench:
             return (["used", capture.used, "bytes", capture.buffer] + summary_fields(capture.summary)
                     + ["mark"] + mark_fields(capture.mark))
 
+        def seasons(group):
+            found = capture.seasons(corridor_of(group), boundaries_of(group))
+            return [field for number, season in enumerate(found, 1) for field in season_fields(number, season)]
+
         return {
             "capture_set": ([exactly(8), at_most(CAPTURE_BUFFER_MOST)], plain(set_capture)),
             "summary_set": ([exactly(SUMMARY_SIZE)], plain(set_summary)),
@@ -1164,6 +1231,7 @@ class Bench:
             "capture_prefix": ([exactly(0)], plain(lambda none: keep_prefix())),
             "capture_record": ([exactly(8)], plain(lambda place: record_fields(capture.record(high_first(place))))),
             "capture_show": ([exactly(0)], plain(lambda none: show())),
+            "seasons": ([exactly(SEASONS_SIZE)], plain(seasons)),
         }
 
     def answer(self, line):

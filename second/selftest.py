@@ -3,6 +3,7 @@
     python3 second/selftest.py
 """
 
+import bisect
 import unittest
 
 import cases
@@ -48,6 +49,33 @@ LEVEL_CHANGE_DAMAGED = LEVEL_CHANGE[:-2] + "6B"
 LEVEL_CHANGE_LONGER = "5A 43 7C BA CC 2F 40 2E 00 00 3B 03 01 FE 95"
 LEVEL_CHANGE_TWO = "5A 43 7C BA CC 2F 40 2E 00 3B 03 00 6A"
 NOTHING_COUNTED = "records 0 first absent last absent counts 0 0 0 0 0 0 0 0 0 0 0"
+
+# Of a corridor: an occupied event, a press, a hold and one of type 7; the corridor in a call, and boundaries at 16, 32 and 48 seconds.
+OCCUPIED = "5A 43 7C BA CC 2F 40 2E 00 00 3B 06 01 05 6B"
+PRESS = "5A 43 7C BA CC 2F 40 2E 00 00 3B 00 01 05 6D"
+HOLD = "5A 43 7C BA CC 2F 40 2E 00 00 3B 01 01 05 6C"
+UNOCCUPIED = "5A 43 7C BA CC 2F 40 2E 00 00 3B 07 01 05 6A"
+CORRIDOR = "7C BA CC 2F 40 2E 00 00 00 3B 05"
+BOUNDARIES = " 00 00 00 10 00 00 00 20 00 00 00 30"
+
+
+def record_at(seconds, datagram):
+    """A record of a datagram of 15 bytes, at a time below 256."""
+    return " 00 13 00 00 00 %02X %s" % (seconds, datagram)
+
+
+def capture_of(count, records, version="01"):
+    """The call that hands in a capture of so many of these records."""
+    return "capture_set 00 00 00 00 00 00 %02X %02X / %s%s" % ((1 + 21 * count) // 256, (1 + 21 * count) % 256, version, records)
+
+
+def four(*seasons):
+    """The answer that has these four seasons."""
+    return "0 " + " ".join("season %d %s" % place for place in enumerate(seasons, 1))
+
+
+NOTHING_IN_IT = "occupied 0 presses 0 holds 0 longest absent total 0 gaps 0"
+ONE_IN_IT = "occupied 1 presses 0 holds 0 longest absent total 0 gaps 0"
 
 # Document 02: what its requests state.
 STATED_LATER = [
@@ -230,6 +258,76 @@ STATED_LATER = [
     ("capture_run 00 00 01 07 /", "15"),
     ("capture_run_at 00 00 01 07 / 00 00", "0 in 0 refused 1 used 6"),
     ("capture_show", "0 used 6 bytes 01 00 03 00 00 00 records 2 first 263 last 264 counts 0 0 0 2 0 0 0 0 0 0 0 mark 6 last 5"),
+    # W-213: "occupied events (type 6), button presses (0), holds (1)"; gaps of 4 and 7 in the first season, none with two in the others
+    (capture_of(9, record_at(1, OCCUPIED) + record_at(2, PRESS) + record_at(5, OCCUPIED) + record_at(5, HOLD) + record_at(6, UNOCCUPIED)
+                + record_at(12, OCCUPIED) + record_at(33, HOLD) + record_at(33, HOLD) + record_at(60, OCCUPIED)), "0"),
+    ("seasons " + CORRIDOR + BOUNDARIES,
+     four("occupied 3 presses 1 holds 1 longest 7 total 11 gaps 2", NOTHING_IN_IT,
+          "occupied 0 presses 0 holds 2 longest absent total 0 gaps 0", ONE_IN_IT)),
+    # "a time equal to a boundary belongs to the later season": boundaries at 1, 5 and 12
+    ("seasons " + CORRIDOR + " 00 00 00 01 00 00 00 05 00 00 00 0C",
+     four(NOTHING_IN_IT, "occupied 1 presses 1 holds 0 longest absent total 0 gaps 0",
+          "occupied 1 presses 0 holds 1 longest absent total 0 gaps 0", "occupied 2 presses 0 holds 2 longest 48 total 48 gaps 1")),
+    # "both lying in it": from 5 to 12 is across the boundary 6, from 12 to 60 across 13 and 33
+    ("seasons " + CORRIDOR + " 00 00 00 06 00 00 00 0D 00 00 00 21",
+     four("occupied 2 presses 1 holds 1 longest 4 total 4 gaps 1", ONE_IN_IT, NOTHING_IN_IT,
+          "occupied 1 presses 0 holds 2 longest absent total 0 gaps 0")),
+    # another MAC, another target, another instance, a target too large for the layout, and an instance over 31
+    ("seasons 7C BA CC 2F 40 2F" + CORRIDOR[17:] + BOUNDARIES, four(*[NOTHING_IN_IT] * 4)),
+    ("seasons " + CORRIDOR[:-5] + "3A 05" + BOUNDARIES, four(*[NOTHING_IN_IT] * 4)),
+    ("seasons " + CORRIDOR[:-2] + "04" + BOUNDARIES, four(*[NOTHING_IN_IT] * 4)),
+    ("seasons 7C BA CC 2F 40 2E 01 00 00 3B 05" + BOUNDARIES, four(*[NOTHING_IN_IT] * 4)),
+    ("seasons " + CORRIDOR[:-2] + "25" + BOUNDARIES, four(*[NOTHING_IN_IT] * 4)),
+    # "20 for boundaries that do not rise": equal, and falling
+    ("seasons " + CORRIDOR + " 00 00 00 10 00 00 00 10 00 00 00 30", "20"),
+    ("seasons " + CORRIDOR + " 00 00 00 10 00 00 00 30 00 00 00 30", "20"),
+    ("seasons " + CORRIDOR + " 00 00 00 20 00 00 00 10 00 00 00 30", "20"),
+    ("seasons " + CORRIDOR + " 00 00 00 10 00 00 00 30 00 00 00 20", "20"),
+    # a gap of 0 seconds is one: the longest is 0, not absent
+    (capture_of(2, record_at(32, OCCUPIED) * 2), "0"),
+    ("seasons " + CORRIDOR + BOUNDARIES,
+     four(NOTHING_IN_IT, NOTHING_IN_IT, "occupied 2 presses 0 holds 0 longest 0 total 0 gaps 1", NOTHING_IN_IT)),
+    # a neighbour's occupied event between two of the corridor's: one gap of 9, none of the neighbour's
+    (capture_of(3, record_at(17, OCCUPIED) + record_at(20, OCCUPIED[:-5] + "04 6A") + record_at(26, OCCUPIED)), "0"),
+    ("seasons " + CORRIDOR + BOUNDARIES,
+     four(NOTHING_IN_IT, "occupied 2 presses 0 holds 0 longest 9 total 9 gaps 1", NOTHING_IN_IT, NOTHING_IN_IT)),
+    ("seasons " + CORRIDOR[:-2] + "04" + BOUNDARIES, four(NOTHING_IN_IT, ONE_IN_IT, NOTHING_IN_IT, NOTHING_IN_IT)),
+    # an instance over 31 is counted where events carry it: "the seasons' counts add up to that instance's over the whole capture"
+    (capture_of(2, record_at(17, OCCUPIED) + record_at(20, OCCUPIED[:-5] + "25 4B")), "0"),
+    ("seasons " + CORRIDOR[:-2] + "25" + BOUNDARIES, four(NOTHING_IN_IT, ONE_IN_IT, NOTHING_IN_IT, NOTHING_IN_IT)),
+    # bytes in use before the last record: it does not count
+    (capture_of(2, record_at(17, OCCUPIED) + record_at(20, OCCUPIED) + record_at(26, OCCUPIED)), "0"),
+    ("seasons " + CORRIDOR + BOUNDARIES,
+     four(NOTHING_IN_IT, "occupied 2 presses 0 holds 0 longest 3 total 3 gaps 1", NOTHING_IN_IT, NOTHING_IN_IT)),
+    # two target bytes, and a target too large for them
+    ("capture_set 00 00 00 00 00 00 00 29 / 02 00 12 00 00 00 0F 5A 43 7C BA CC 2F 40 2E 00 3B 06 01 05 6B"
+     " 00 12 00 00 00 10 5A 43 7C BA CC 2F 40 2E 00 3B 06 01 05 6B", "0"),
+    ("seasons " + CORRIDOR + BOUNDARIES, four(ONE_IN_IT, ONE_IN_IT, NOTHING_IN_IT, NOTHING_IN_IT)),
+    ("seasons 7C BA CC 2F 40 2E 00 01 00 3B 05" + BOUNDARIES, four(*[NOTHING_IN_IT] * 4)),
+    # "14 and 15 as before, then 20"
+    (capture_of(1, record_at(17, OCCUPIED), "02"), "0"),
+    ("seasons " + CORRIDOR + BOUNDARIES, "15"),
+    ("seasons " + CORRIDOR + " 00" * 12, "15"),
+    (capture_of(1, record_at(17, OCCUPIED), "03"), "0"),
+    ("seasons " + CORRIDOR + BOUNDARIES, "14"),
+    ("seasons " + CORRIDOR + " 00" * 12, "14"),
+    (capture_of(2, record_at(17, OCCUPIED) + record_at(16, OCCUPIED)), "0"),
+    ("seasons " + CORRIDOR + " 00" * 12, "15"),
+    ("capture_set 00 00 00 00 00 00 00 00 / 01", "0"),
+    ("seasons " + CORRIDOR + " 00" * 12, "15"),
+    ("capture_set 00 00 00 00 00 00 00 02 / 01", "0"),
+    ("seasons " + CORRIDOR + BOUNDARIES, "15"),
+    ("capture_set 00 00 00 00 00 00 00 01 / 01", "0"),
+    ("seasons " + CORRIDOR + BOUNDARIES, four(*[NOTHING_IN_IT] * 4)),
+    ("seasons " + CORRIDOR + " 00" * 12, "20"),
+    # the longest gap that there is, and nothing has moved
+    ("capture_set 00 00 00 00 00 00 00 2B / 01 00 13 00 00 00 02 " + OCCUPIED + " 00 13 FF FF FF FF " + OCCUPIED, "0"),
+    ("seasons " + CORRIDOR + " 00 00 00 00 00 00 00 01 00 00 00 02",
+     four(NOTHING_IN_IT, NOTHING_IN_IT, NOTHING_IN_IT, "occupied 2 presses 0 holds 0 longest 4294967293 total 4294967293 gaps 1")),
+    ("capture_show", "0 used 43 bytes 01 00 13 00 00 00 02 " + OCCUPIED + " 00 13 FF FF FF FF " + OCCUPIED
+     + " records 2 first 263 last 264 counts 0 0 0 2 0 0 0 0 0 0 0 mark 6 last 5"),
+    ("name 00 14 / FF FF FF FF FF FF FF FF FF FF",
+     "0 count 10 before FF FF FF FF FF FF FF FF FF FF after 4E 4F 54 5F 52 49 53 49 4E 47"),
 ]
 
 # The events that source 002 prints, in the layout of its table: document 01 keeps to the table.
@@ -298,6 +396,37 @@ def mornings(chance):
     for version, size, appends in runs_of_appends(chance):
         datagrams = [b"" if chance.one_in(20) else datagram for _, datagram in appends]
         yield version, size, cases.parted(datagrams, chance)
+
+
+def years(chance):
+    """Years by chance in both layouts, as events and as a capture, with three boundaries and a corridor that the year has."""
+    for number in range(600):
+        version, width = cases.VERSIONS[number % 2]
+        year = list(cases.some_year(chance, width, 3 + chance.below(49)))
+        capture = opinion.Capture()
+        capture.buffer = bytes([version]) + b"".join(cases.year_records(width, year))
+        capture.used = len(capture.buffer)
+        yield year, capture, cases.some_boundaries(chance, year), cases.some_corridor(chance, year)
+
+
+def seasons_event_by_event(year, boundaries, corridor):
+    """The seasons told event by event, by the search for a time among the boundaries; a gap is counted when it ends."""
+    seasons = [[0, 0, 0, None, 0, 0] for _ in range(4)]
+    before = [None] * 4
+    for seconds, mac, target, type_, data in year:
+        place = bisect.bisect_right(boundaries, seconds)
+        if (mac, target, data[0]) != corridor or type_ not in [6, 0, 1]:
+            continue
+        season = seasons[place]
+        season[[6, 0, 1].index(type_)] += 1
+        if type_ == 6:
+            if before[place] is not None:
+                gap = seconds - before[place]
+                season[3] = gap if season[3] is None or gap > season[3] else season[3]
+                season[4] += gap
+                season[5] += 1
+            before[place] = seconds
+    return [tuple(season) for season in seasons]
 
 
 class SelfTest(unittest.TestCase):
@@ -418,6 +547,35 @@ class SelfTest(unittest.TestCase):
                     else:
                         self.assertEqual(answered(lambda *given: append_run(capture, *given), 5, run[:cut]), (15, None))
                         self.assertEqual(vars(capture), before)
+
+    def test_seasons_event_by_event(self):
+        with_gaps = 0
+        for year, capture, boundaries, corridor in years(cases.Chance(13)):
+            before = dict(vars(capture))
+            found = capture.seasons(opinion.Corridor(*corridor), boundaries)
+            self.assertEqual([tuple(season) for season in found], seasons_event_by_event(year, boundaries, corridor))
+            self.assertEqual(vars(capture), before)
+            with_gaps += sum(season.gaps > 1 for season in found)
+        self.assertGreater(with_gaps, 300)
+
+    def test_seasons_add_up(self):
+        for year, capture, boundaries, corridor in years(cases.Chance(14)):
+            found = capture.seasons(opinion.Corridor(*corridor), boundaries)
+            own = [(seconds, type_) for seconds, mac, target, type_, data in year if (mac, target, data[0]) == corridor]
+            for place, type_ in enumerate([6, 0, 1]):
+                self.assertEqual(sum(season[place] for season in found), [of for _, of in own].count(type_))
+            for number, season in enumerate(found):
+                times = [seconds for seconds, type_ in own if type_ == 6 and sum(seconds >= boundary for boundary in boundaries) == number]
+                gaps = [times[place] - times[place - 1] for place in range(1, len(times))]
+                self.assertEqual((season.total, season.gaps), (times[-1] - times[0] if times else 0, max(0, season.occupied - 1)))
+                self.assertEqual((season.total, season.longest), (sum(gaps), sorted(gaps)[-1] if gaps else None))
+
+    def test_boundaries_that_do_not_rise(self):
+        capture = empty_capture(1, 30)
+        for boundaries in [[first, second, third] for first in range(4) for second in range(4) for third in range(4)]:
+            rising = len(set(boundaries)) == 3 and sorted(boundaries) == boundaries
+            number = answered(lambda *given: capture.seasons(*given), opinion.Corridor(cases.MAC, 1, 2), boundaries)[0]
+            self.assertEqual(number, 0 if rising else 20)
 
     def test_printed_events(self):
         bench = opinion.Bench()

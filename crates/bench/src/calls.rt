@@ -483,6 +483,14 @@ fn stored(
     }
 }
 
+// The report of seasons over the capture, which stays as it is.
+fn seasons(c: Carried, s: &[u8], store: &[u8], out: &mut [u8], at: usize) -> usize {
+    let buffer = bench_words::part(store, 0, c.size);
+    let who = bench_seasons::corridor_in(s);
+    let r = report::report(buffer, c.used, who, bench_seasons::boundaries_in(s));
+    bench_seasons::say(out, at, r)
+}
+
 fn made(c: Call, state: State, bytes: &[u8], store: &mut [u8], out: &mut [u8], at: usize) -> Turn {
     let n = c.number;
     let g = c.groups;
@@ -491,6 +499,10 @@ fn made(c: Call, state: State, bytes: &[u8], store: &mut [u8], out: &mut [u8], a
     let u = bench_words::part(bytes, g.b, g.c);
     if n / 16 == 12 {
         return stored(n, state, s, t, store, out, at);
+    }
+    if n / 16 == 13 {
+        let capture = state.capture;
+        return said(state, seasons(capture, s, store, out, at));
     }
     let a = moved(n, state, s, t);
     let next = a.state;

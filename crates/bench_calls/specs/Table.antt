@@ -93,6 +93,8 @@ table =
     ∷ row "capture_prefix" 0xC8_1_000_000_FFF
     ∷ row "capture_record" 0xC9_1_008_008_FFF
     ∷ row "capture_show" 0xCA_1_000_000_FFF
+    -- Seasons
+    ∷ row "seasons" 0xD0_1_017_017_FFF
     -- Help
     ∷ row "help" 0xB0_1_000_000_FFF
     ∷ []

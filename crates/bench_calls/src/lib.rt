@@ -30,7 +30,7 @@ pub enum Called {
 // many the second has at most, as digits of one hexadecimal number. FFF is more than a line can name. A third group may
 // have any. The first digit of a call's number is its family: what is answered of it is of one kind. (7 and 8 write into a
 // buffer, which is their last group of two or of three; A gives the data of a datagram.) New calls stand behind those of theirs.
-const ROWS: [usize; 74] = [
+const ROWS: [usize; 75] = [
     // Datagrams
     0x10_1_000_FFF_FFF, // request
     0x70_2_006_006_FFF, // write_basic
@@ -110,12 +110,14 @@ const ROWS: [usize; 74] = [
     0xC8_1_000_000_FFF, // capture_prefix
     0xC9_1_008_008_FFF, // capture_record
     0xCA_1_000_000_FFF, // capture_show
+    // Seasons
+    0xD0_1_017_017_FFF, // seasons
     // Help
     0xB0_1_000_000_FFF, // help
 ];
 
 // Their names, in the order of the rows, with a blank between two.
-const NAMES: [u8; 794] =
+const NAMES: [u8; 802] =
     *b"request write_basic write_unicast reply reply_data error_code write_reply event event_data \
 write_event event_two event_two_data write_event_two relay_request relay_reply relay_event \
 relay_event_two sum frame known shape fits error_name event_type group_target lights status \
@@ -124,7 +126,7 @@ lowest_gear types filters filter book_fresh book_set ask answer book_show fresh_
 hold_request feed_request close_request show_request settle_request item_request fresh_reply \
 hold_reply feed_reply close_reply show_reply settle_reply item_reply capture_set summary_set \
 mark_set capture_empty capture_append capture_append_at capture_run capture_run_at \
-capture_open capture_count capture_prefix capture_record capture_show help";
+capture_open capture_count capture_prefix capture_record capture_show seasons help";
 
 // Whether two runs hold the same bytes.
 fn same(s: &[u8], t: &[u8]) -> bool
@@ -165,7 +167,7 @@ fn row_of(name: &[u8]) -> usize
     ensures { λ r. ⌜ r ≡ rowOf (now (name .entry)) ⌝ }
 {
     let k = place(&NAMES, name);
-    if k < 74 { ROWS[k] } else { 0 }
+    if k < 75 { ROWS[k] } else { 0 }
 }
 
 // Whether the groups are those that the row asks for.

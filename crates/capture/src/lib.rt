@@ -114,7 +114,7 @@ pub fn front(buf: &[u8], used: usize) -> Version
 }
 
 // The record at a place, behind one of these seconds.
-fn follow(layout: Layout, s: &[u8], at: usize, last: Seconds) -> Standing
+pub fn follow(layout: Layout, s: &[u8], at: usize, last: Seconds) -> Standing
     ensures { λ r. ⌜ saidStanding r ≡ standing at (nextAt (widthOf layout) last (drop at (now (s .entry)))) ⌝ }
 {
     let r = record::read(layout, s, at);

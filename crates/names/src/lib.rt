@@ -18,7 +18,7 @@ pub const ERROR: u8 = 3;
 pub const EVENT: u8 = 4;
 
 // A row for each name: its kind and its number, as digits of one hexadecimal number.
-const KEYS: [u16; 75] = [
+const KEYS: [u16; 76] = [
     // Refusals
     0x0_00, // OK
     0x0_01, // TOO_SHORT
@@ -36,6 +36,7 @@ const KEYS: [u16; 75] = [
     0x0_0E, // UNKNOWN_VERSION
     0x0_0F, // BAD_RECORD
     0x0_10, // EARLIER_TIME
+    0x0_14, // NOT_RISING
     // Commands
     0x1_01, // QUERY_GROUP_LABEL
     0x1_08, // ENABLE_TPI_EVENT_EMIT
@@ -106,7 +107,7 @@ fn place(key: u16) -> usize
     ensures { λ r. ⌜ r ≡ placeIn key keys ⌝ }
 {
     let mut k: usize = 0;
-    while k < 75 {
+    while k < 76 {
         if KEYS[k] == key {
             return k;
         }
@@ -121,7 +122,7 @@ pub fn name(kind: u8, number: u8, out: &mut [u8]) -> Wrote
     ensures { λ r. ⌜ Written (nameOf kind number) (now (out .entry)) r (now (out .exit)) ⌝ }
 {
     let k = place((kind as u16) * 256 + (number as u16));
-    if 75 <= k {
+    if 76 <= k {
         return Wrote::Refused(7);
     }
     let n = words::put(
@@ -129,7 +130,7 @@ pub fn name(kind: u8, number: u8, out: &mut [u8]) -> Wrote
         0,
         b"OK TOO_SHORT BAD_LEAD UNKNOWN_COMMAND BAD_LENGTH_BYTE BAD_LENGTH BAD_SUM BAD_ARGUMENT NO_ROOM \
 NO_NUMBER_FREE NOT_AWAITED BAD_DATA_SIZE NONE_THERE UNKNOWN_VERSION BAD_RECORD EARLIER_TIME \
-QUERY_GROUP_LABEL ENABLE_TPI_EVENT_EMIT QUERY_GROUP_NUMBERS QUERY_SCENE_NUMBERS \
+NOT_RISING QUERY_GROUP_LABEL ENABLE_TPI_EVENT_EMIT QUERY_GROUP_NUMBERS QUERY_SCENE_NUMBERS \
 QUERY_PROFILE_NUMBERS QUERY_OCCUPANCY_INSTANCE_TIMERS QUERY_SCENE_NUMBERS_FOR_GROUP \
 QUERY_SCENE_LABEL_FOR_GROUP QUERY_CONTROLLER_VERSION_NUMBER QUERY_CONTROL_GEAR_DALI_ADDRESSES \
 QUERY_DMX_DEVICE_LABEL_BY_NUMBER DALI_ADD_TPI_EVENT_FILTER QUERY_DALI_TPI_EVENT_FILTERS \

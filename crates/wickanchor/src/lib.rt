@@ -23,6 +23,7 @@ ghost use Rattle.maps.specs.Maps.{maskOf, scenesOf, gearOf, typesOf, countOf, l
 ghost use Rattle.filters.specs.Filters.{filtersOf, entryOf};
 ghost use Rattle.summary.specs.Summary.{countedIn, counting};
 ghost use Rattle.capture.specs.Capture.{opened, counted, prefixed, found, nothingKept, entryAt};
+ghost use Rattle.report.specs.Report.{reported, reporting};
 ghost use Rattle.book.specs.Book.{freshBook};
 ghost use Rattle.line.specs.Rule.{itemAt};
 ghost use Rattle.reader.specs.Reader.{hold};
@@ -36,14 +37,18 @@ ghost use Rattle.c_values.specs.Books.{bookIn, bookOut, askedOut, repliedOut};
 ghost use Rattle.c_values.specs.Lines.{lineBy, readerIn, readerOut, fedOut, closedOut, positionOut};
 ghost use Rattle.c_capture.specs.Captures.{summaryIn, markIn, foundOut, openedOut, countedOut, EmptiesOut, AppendsAtOut, AppendsOut, RunsOut, RunsAtOut};
 ghost use Rattle.c_capture.specs.Records.{recordOut};
+ghost use Rattle.c_capture.specs.Seasons.{corridorIn, boundariesIn, seasonsOut};
 use c_capture::WickAppended;
+use c_capture::WickBoundaries;
 use c_capture::WickCapture;
+use c_capture::WickCorridor;
 use c_capture::WickCounted;
 use c_capture::WickMark;
 use c_capture::WickOpened;
 use c_capture::WickRan;
 use c_capture::WickRanAt;
 use c_capture::WickRecord;
+use c_capture::WickSeasons;
 use c_capture::WickSummary;
 use c_datagrams::WickAddress;
 use c_datagrams::WickAim;
@@ -549,4 +554,22 @@ pub extern "C" fn wick_capture_record(buf: &[u8], used: usize, place: usize) -> 
     ensures { λ w. ⌜ w ≡ recordOut place (entryAt (now (buf .entry)) used place) ⌝ }
 {
     c_capture::record_out(place, capture::step(buf, used, place))
+}
+
+// The four seasons of one corridor in a capture.
+#[no_mangle]
+pub extern "C" fn wick_capture_seasons(
+    buf: &[u8],
+    used: usize,
+    who: WickCorridor,
+    boundaries: WickBoundaries,
+) -> WickSeasons
+    ensures { λ w. ⌜ w ≡ seasonsOut (reporting (reported (now (buf .entry)) used (corridorIn who) (boundariesIn boundaries))) ⌝ }
+{
+    c_capture::seasons_out(report::report(
+        buf,
+        used,
+        c_capture::corridor_in(who),
+        c_capture::boundaries_in(boundaries),
+    ))
 }

@@ -1,0 +1,4 @@
+-- what the contracts cite
+pub mod Report
+-- what only serves proofs
+pub mod Going

@@ -1,0 +1,4 @@
+-- what the contracts cite
+pub mod Tally
+-- what only serves proofs
+pub mod Ways
