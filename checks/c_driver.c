@@ -20,6 +20,9 @@ static uint64_t used;
 static struct wick_summary summary;
 static struct wick_mark mark;
 
+/* The report between two parts: zeros are one that was begun with zeros */
+static struct wick_seasons_state so_far;
+
 /* Answers are made of these */
 static void hex(const uint8_t *bytes, uint64_t n) {
     for (uint64_t i = 0; i < n; i++) printf(" %02X", bytes[i]);
@@ -590,17 +593,127 @@ static void season(int i, struct wick_season x) {
     number("gaps", x.gaps);
 }
 
-static void seasons(void) {
-    const uint8_t *b = g[0].bytes;
+static struct wick_corridor corridor(const uint8_t *b) {
     struct wick_corridor who = {{{0}}, four(b + 6), b[10]};
     memcpy(who.mac.bytes, b, 6);
-    struct wick_boundaries boundaries = {four(b + 11), four(b + 15), four(b + 19)};
-    struct wick_seasons r = wick_capture_seasons(kept.bytes, kept.n, used, who, boundaries);
+    return who;
+}
+
+static struct wick_boundaries boundaries(const uint8_t *b) { return (struct wick_boundaries){four(b + 11), four(b + 15), four(b + 19)}; }
+
+static void reported(struct wick_seasons r) {
     printf("%u", r.refusal);
     for (int i = 0; i < WICK_SEASONS; i++) {
         if (r.refusal) season_clear(r.seasons[i]);
         else season(i, r.seasons[i]);
     }
+}
+
+static void same_season(struct wick_season a, struct wick_season b) {
+    same_time(a.has_longest, a.longest, b.has_longest, b.longest);
+    if (a.occupied != b.occupied || a.presses != b.presses || a.holds != b.holds || a.total != b.total || a.gaps != b.gaps) printf(" NOT THE SAME");
+}
+
+static void same_report(struct wick_seasons a, struct wick_seasons b) {
+    if (a.refusal != b.refusal) printf(" NOT THE SAME");
+    for (int i = 0; i < WICK_SEASONS; i++) same_season(a.seasons[i], b.seasons[i]);
+}
+
+/* A report behind some bytes, in parts of one length */
+static struct wick_seasons_state in_parts(struct wick_seasons_state x, const uint8_t *s, uint64_t n, uint64_t length) {
+    for (uint64_t at = 0; at < n; at += length) x = wick_seasons_part(x, s + at, n - at < length ? n - at : length);
+    return x;
+}
+
+/* Whether good records and their bytes are those of the longest good capture at the front */
+static void same_place(struct wick_seasons_state x, struct wick_capture front) {
+    uint64_t good = front.refusal ? 0 : front.mark.used - WICK_CAPTURE_RECORDS_AT;
+    if (x.records != front.summary.records || x.bytes != good) printf(" NOT THE SAME");
+    same_time(x.has_last, x.last, front.mark.has_last, front.mark.last);
+}
+
+/* The carried capture part by part: in parts of many lengths, and where it is short cut in two at every place */
+static void cut(struct wick_corridor who, struct wick_boundaries b, struct wick_seasons whole) {
+    static const uint64_t lengths[] = {1, 2, 3, 5, 7, 20, 66, 67, 68, 69, 1000, 1000000};
+    struct wick_seasons_state begun = wick_seasons_begin(who, b);
+    struct wick_capture front = wick_capture_prefix(kept.bytes, kept.n, used);
+    for (size_t i = 0; i < sizeof lengths / sizeof *lengths; i++) {
+        struct wick_seasons_state x = in_parts(begun, kept.bytes, used, lengths[i]);
+        same_report(wick_seasons_end(x), whole);
+        same_place(x, front);
+    }
+    for (uint64_t at = 0; used < 200 && at <= used && used; at++) {
+        struct wick_seasons_state x = wick_seasons_part(wick_seasons_part(begun, kept.bytes, at), kept.bytes + at, used - at);
+        same_report(wick_seasons_end(x), whole);
+        same_place(x, front);
+    }
+}
+
+static void seasons(void) {
+    struct wick_corridor who = corridor(g[0].bytes);
+    struct wick_boundaries b = boundaries(g[0].bytes);
+    struct wick_seasons r = wick_capture_seasons(kept.bytes, kept.n, used, who, b);
+    reported(r);
+    if (used <= kept.n) cut(who, b, r);
+}
+
+/* What a call hands back of a report: flags are 0 or 1, an absent time is 0, a refusal stands beside its stage alone, and behind the bytes held
+   stand zeros */
+static void plain_state(struct wick_seasons_state x) {
+    plain(x.has_last, x.last);
+    plain(x.has_occupied, x.occupied);
+    for (int i = 0; i < WICK_SEASONS; i++) plain(x.seasons[i].has_longest, x.seasons[i].longest);
+    if (x.stage > WICK_STAGE_REFUSED || (x.stage == WICK_STAGE_REFUSED) != (x.refusal != 0)) printf(" NOT PLAIN");
+    if (x.len > (x.stage == WICK_STAGE_TWO ? WICK_RECORD_TWO_MOST : WICK_RECORD_MOST) - 1u) printf(" NOT PLAIN");
+    for (uint64_t i = x.len; i < WICK_SEASONS_HELD; i++)
+        if (x.held[i]) printf(" NOT PLAIN");
+}
+
+static void same_state(struct wick_seasons_state a, struct wick_seasons_state b) {
+    if (a.stage != b.stage || a.refusal != b.refusal || a.records != b.records || a.bytes != b.bytes) printf(" NOT THE SAME");
+    same_time(a.has_last, a.last, b.has_last, b.last);
+    same_time(a.has_occupied, a.occupied, b.has_occupied, b.occupied);
+    for (int i = 0; i < WICK_SEASONS; i++) same_season(a.seasons[i], b.seasons[i]);
+    same_report(wick_seasons_end(a), wick_seasons_end(b));
+}
+
+static void strange_time(uint8_t *has, uint32_t *seconds, int i) {
+    if (*has) *has = (uint8_t)(255 - i);
+    else *seconds = 4294967295u - (uint32_t)i;
+}
+
+/* The same state as a caller may have made it up: other flags, stages and refusals of the same meaning, noise behind what is held, and where
+   nothing is held more than can be, or (by i) a length that no record has */
+static struct wick_seasons_state strange(struct wick_seasons_state x, int i) {
+    strange_time(&x.has_last, &x.last, i);
+    strange_time(&x.has_occupied, &x.occupied, i);
+    for (int k = 0; k < WICK_SEASONS; k++) strange_time(&x.seasons[k].has_longest, &x.seasons[k].longest, i);
+    if (x.stage == WICK_STAGE_REFUSED) x.stage = (uint8_t)(4 + 251 * (i % 2));
+    else x.refusal = (uint8_t)(255 - i);
+    memset(x.held + x.len, 0xA5, WICK_SEASONS_HELD - x.len);
+    if (!x.len) x.len = i == 0 ? 68 : i == 1 ? 18446744073709551615u : 2;
+    return x;
+}
+
+static void seasons_begin(void) {
+    so_far = wick_seasons_begin(corridor(g[0].bytes), boundaries(g[0].bytes));
+    printf("0");
+    plain_state(so_far);
+    for (int i = 0; i < 3; i++) same_state(wick_seasons_part(strange(so_far, i), NULL, 0), so_far);
+}
+
+static void seasons_part(void) {
+    struct wick_seasons_state next = wick_seasons_part(so_far, g[0].bytes, g[0].n);
+    printf("0");
+    plain_state(next);
+    for (int i = 0; i < 3; i++) same_state(wick_seasons_part(strange(so_far, i), g[0].bytes, g[0].n), next);
+    so_far = next;
+}
+
+static void seasons_end(void) {
+    struct wick_seasons r = wick_seasons_end(so_far);
+    reported(r);
+    for (int i = 0; i < 3; i++) same_report(wick_seasons_end(strange(so_far, i)), r);
 }
 
 #define CALL(name) {#name, name}
@@ -618,7 +731,7 @@ static const struct {
     CALL(close_request), CALL(close_reply), CALL(show_request), CALL(show_reply), CALL(item_request), CALL(item_reply),
     CALL(capture_set), CALL(summary_set), CALL(mark_set), CALL(capture_empty), CALL(capture_append), CALL(capture_append_at),
     CALL(capture_run), CALL(capture_run_at), CALL(capture_open), CALL(capture_count), CALL(capture_prefix), CALL(capture_record), CALL(capture_show),
-    CALL(seasons),
+    CALL(seasons), CALL(seasons_begin), CALL(seasons_part), CALL(seasons_end),
 };
 #define CALLS (sizeof calls / sizeof *calls)
 

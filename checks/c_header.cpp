@@ -1,5 +1,6 @@
 // The header in C++: it compiles, its functions link, the scenes that it names are the last that requests take, the sizes and targets
-// that it names for each layout of events are the ends of theirs, and captures, runs of datagrams and seasons are as it says.
+// that it names for each layout of events are the ends of theirs, and captures, runs of datagrams and seasons, whole and part by part, are
+// as it says.
 #include "wickanchor.h"
 
 // What writing a request with these arguments is refused with.
@@ -109,13 +110,50 @@ static bool seasons(const layout &l, uint8_t version) {
         && wick_capture_seasons(buf, sizeof buf, k.mark.used - 1, who, low).refusal == WICK_BAD_RECORD;
 }
 
+// Two of the longest record: all but a byte of the second is held, and tells where it is cut short; with its sum changed it is bad, and tells
+// where. Parts behind that change nothing. Of another version it is refused at its first byte, and no byte is no capture. A made-up stage is
+// one refused with the number beside it; with 0 nothing is counted.
+static bool parts(const layout &l, uint8_t version, uint64_t most) {
+    const struct wick_mac mac = {{0x7C, 0xBA, 0xCC, 0x2F, 0x40, 0x2E}};
+    const struct wick_corridor who = {mac, l.target, 0};
+    const struct wick_boundaries rise = {7, 8, 9};
+    const uint8_t data[WICK_EVENT_DATA_MOST] = {}, other = WICK_CAPTURE_TWO + 1;
+    uint8_t event[WICK_EVENT_MOST], buf[WICK_CAPTURE_RECORDS_AT + 2 * WICK_RECORD_MOST];
+    const uint64_t n = l.write(mac, l.target, WICK_IS_OCCUPIED, data, sizeof data, event, sizeof event).count;
+    struct wick_capture k = wick_capture_empty(version, buf, sizeof buf);
+    k = wick_capture_append_at(buf, sizeof buf, k.mark, k.summary, 7, event, n);
+    const uint64_t second = k.mark.used;
+    k = wick_capture_append_at(buf, sizeof buf, k.mark, k.summary, 7, event, n);
+    const struct wick_seasons_state fresh = wick_seasons_begin(who, rise);
+    const struct wick_seasons_state cut = wick_seasons_part(fresh, buf, k.mark.used - 1);
+    const struct wick_seasons_state whole = wick_seasons_part(cut, buf + k.mark.used - 1, 1);
+    const uint8_t wrong = uint8_t(buf[k.mark.used - 1] + 1);
+    const struct wick_seasons_state bad = wick_seasons_part(cut, &wrong, 1), more = wick_seasons_part(bad, buf, k.mark.used);
+    const struct wick_seasons_state none = wick_seasons_part(fresh, &other, 1);
+    struct wick_seasons_state nine = whole, zero = whole;
+    nine.stage = zero.stage = 200;
+    nine.refusal = 9;
+    return fresh.stage == WICK_STAGE_FRESH && wick_seasons_end(fresh).refusal == WICK_BAD_RECORD
+        && cut.stage == version && cut.records + 1 == 2 && 1 + cut.bytes == second && cut.len == most - 1 && cut.len <= WICK_SEASONS_HELD
+        && cut.has_last && cut.last == 7 && wick_seasons_end(cut).refusal == WICK_BAD_RECORD
+        && whole.stage == version && whole.records == 2 && whole.len == 0 && wick_seasons_end(whole).refusal == WICK_OK
+        && season(wick_seasons_end(whole).seasons[1], 2, 0, 0, true, 0) && whole.has_occupied && whole.occupied == 7
+        && bad.stage == WICK_STAGE_REFUSED && bad.refusal == WICK_BAD_RECORD && bad.records == 1 && 1 + bad.bytes == second && bad.len == 0
+        && more.stage == WICK_STAGE_REFUSED && more.records == 1 && more.bytes == bad.bytes && wick_seasons_end(more).refusal == WICK_BAD_RECORD
+        && none.stage == WICK_STAGE_REFUSED && wick_seasons_end(none).refusal == WICK_UNKNOWN_VERSION && none.records == 0 && none.bytes == 0
+        && wick_seasons_end(nine).refusal == 9 && wick_seasons_part(nine, buf, 1).stage == WICK_STAGE_REFUSED
+        && wick_seasons_end(zero).refusal == WICK_OK && season(wick_seasons_end(zero).seasons[1], 0, 0, 0, false, 0)
+        && wick_seasons_end(wick_seasons_part(wick_seasons_begin(who, {7, 7, 9}), buf, k.mark.used)).refusal == WICK_NOT_RISING;
+}
+
 static bool layouts() {
     const layout three = {wick_event, wick_write_event, WICK_EVENT_LEAST, WICK_EVENT_MOST, WICK_EVENT_DATA_AT, WICK_EVENT_TARGET_MOST};
     const layout two = {wick_event_two, wick_write_event_two, WICK_EVENT_TWO_LEAST, WICK_EVENT_TWO_MOST, WICK_EVENT_TWO_DATA_AT,
                         WICK_EVENT_TWO_TARGET_MOST};
     return events(three) && events(two) && captures(three, WICK_CAPTURE_THREE, WICK_RECORD_MOST)
         && captures(two, WICK_CAPTURE_TWO, WICK_RECORD_TWO_MOST) && runs(three, WICK_CAPTURE_THREE, WICK_RECORD_MOST)
-        && runs(two, WICK_CAPTURE_TWO, WICK_RECORD_TWO_MOST) && seasons(three, WICK_CAPTURE_THREE) && seasons(two, WICK_CAPTURE_TWO);
+        && runs(two, WICK_CAPTURE_TWO, WICK_RECORD_TWO_MOST) && seasons(three, WICK_CAPTURE_THREE) && seasons(two, WICK_CAPTURE_TWO)
+        && parts(three, WICK_CAPTURE_THREE, WICK_RECORD_MOST) && parts(two, WICK_CAPTURE_TWO, WICK_RECORD_TWO_MOST);
 }
 
 int main() {

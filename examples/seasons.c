@@ -1,10 +1,10 @@
-/* Reports one corridor through four seasons, of a capture that is a file: a line for each season.
+/* Reports one corridor through four seasons, of a capture that is a file of any length: a line for each season. The file is read part by part.
 
        seasons FILE MAC TARGET INSTANCE B1 B2 B3
 
-   MAC is a controller's, as 54:4E:40:00:00:01; all else is decimal. B1, B2 and B3 are the seconds with which the second, the third and the
-   fourth season begin. A mean is told in whole seconds, rounded down. A file whose last record is torn is no capture; examples/capture.c
-   mends it.
+   FILE may be -, for standard input. MAC is a controller's, as 54:4E:40:00:00:01; all else is decimal. B1, B2 and B3 are the seconds with which
+   the second, the third and the fourth season begin. A mean is told in whole seconds, rounded down. A file whose last record is torn is no
+   capture; examples/capture.c mends it.
 
    Exit status: 0; 1 where the file cannot be used or is no capture, the boundaries do not rise, or the lines cannot be written; 2 where the
    words are none of the above. */
@@ -13,8 +13,7 @@
 #include <string.h>
 #include "wickanchor.h"
 
-#define ROOM 67108864
-static uint8_t buf[ROOM];
+static uint8_t buf[65536];
 
 static int fails(const char *which, const char *what, int status) {
     fprintf(stderr, "seasons: %s: %s\n", which, what);
@@ -58,6 +57,23 @@ static void say(int number, struct wick_season x) {
     }
 }
 
+/* Hands in the parts of a file, up to its end or to where it is refused. 0 where it cannot be read. */
+static int take(FILE *in, struct wick_seasons_state *x) {
+    size_t n;
+    while (x->stage < WICK_STAGE_REFUSED && (n = fread(buf, 1, sizeof buf, in)) > 0) *x = wick_seasons_part(*x, buf, n);
+    return !ferror(in);
+}
+
+/* Why a capture is refused, and for a record which and where */
+static int refused(const char *which, struct wick_seasons_state x, uint8_t refusal) {
+    char text[128];
+    if (refusal == WICK_NOT_RISING) return fails("the boundaries", name(refusal), 1);
+    if (refusal != WICK_BAD_RECORD || x.stage == WICK_STAGE_FRESH) return fails(which, name(refusal), 1);
+    snprintf(text, sizeof text, "%s: record %llu at byte %llu%s", name(refusal), (unsigned long long)x.records + 1, (unsigned long long)x.bytes + 1,
+             x.stage < WICK_STAGE_REFUSED ? " is cut short" : "");
+    return fails(which, text, 1);
+}
+
 int main(int argc, char **argv) {
     struct wick_corridor who;
     uint32_t instance, b[3];
@@ -72,14 +88,11 @@ int main(int argc, char **argv) {
     for (int i = 0; i < 3; i++)
         if (!decimal(argv[5 + i], 4294967295, &b[i])) return fails(argv[5 + i], "not seconds", 2);
 
-    FILE *in = fopen(argv[1], "rb");
-    if (!in) return fails(argv[1], "cannot be read", 1);
-    uint64_t used = fread(buf, 1, ROOM, in);
-    if (ferror(in)) return fails(argv[1], "cannot be read", 1);
-    if (used == ROOM) return fails(argv[1], "is too long for this example", 1);
-    fclose(in);
-    struct wick_seasons r = wick_capture_seasons(buf, ROOM, used, who, (struct wick_boundaries){b[0], b[1], b[2]});
-    if (r.refusal) return fails(r.refusal == WICK_NOT_RISING ? "the boundaries" : argv[1], name(r.refusal), 1);
+    FILE *in = strcmp(argv[1], "-") ? fopen(argv[1], "rb") : stdin;
+    struct wick_seasons_state x = wick_seasons_begin(who, (struct wick_boundaries){b[0], b[1], b[2]});
+    if (!in || !take(in, &x)) return fails(argv[1], "cannot be read", 1);
+    struct wick_seasons r = wick_seasons_end(x);
+    if (r.refusal) return refused(argv[1], x, r.refusal);
     for (int i = 0; i < WICK_SEASONS; i++) say(i + 1, r.seasons[i]);
     return fflush(NULL) ? fails("the lines", "cannot be written", 1) : 0;
 }

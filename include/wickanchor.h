@@ -20,8 +20,8 @@
    3: command A1 takes scenes 13 to 15 (W-201). 4: events whose target has two bytes (W-206): wick_event_two, wick_write_event_two,
    wick_relay_event_two. 5: captures (W-207): the functions whose names begin with wick_capture, and refusals 14 to 16, which have names.
    6: runs of datagrams (W-208): wick_capture_run, wick_capture_run_at. 7: seasons of one corridor (W-213): wick_capture_seasons, and refusal
-   20, which has a name. */
-#define WICKANCHOR_VERSION 7
+   20, which has a name. 8: the same part by part: wick_seasons_begin, wick_seasons_part, wick_seasons_end. */
+#define WICKANCHOR_VERSION 8
 
 #ifdef __cplusplus
 extern "C" {
@@ -51,7 +51,8 @@ extern "C" {
 #define WICK_NAME_MOST 33
 
 /* Of captures: where the first record begins, the bytes of a record in front of its datagram, the most bytes of a record in each layout of
-   events, how many counts a summary has, the bytes in front of each datagram of a run, and how many seasons there are */
+   events, how many counts a summary has, the bytes in front of each datagram of a run, how many seasons there are, and the most bytes that a
+   report holds between two parts of a capture */
 #define WICK_CAPTURE_RECORDS_AT 1
 #define WICK_RECORD_DATAGRAM_AT 6
 #define WICK_RECORD_MOST 68
@@ -59,6 +60,7 @@ extern "C" {
 #define WICK_COUNTS 11
 #define WICK_RUN_DATAGRAM_AT 2
 #define WICK_SEASONS 4
+#define WICK_SEASONS_HELD 67
 
 /* The last scene of WICK_DALI_SCENE, which takes all that DALI has, and of WICK_QUERY_SCENE_LABEL_FOR_GROUP */
 #define WICK_DALI_SCENE_MOST 15
@@ -406,6 +408,38 @@ struct wick_seasons {
     struct wick_season seasons[WICK_SEASONS];
 };
 
+/* What is known of a capture between two parts of it */
+enum wick_stage {
+    WICK_STAGE_FRESH = 0,           /* no byte has come */
+    WICK_STAGE_THREE = 1,           /* its version, WICK_CAPTURE_THREE, and only good records */
+    WICK_STAGE_TWO = 2,             /* its version, WICK_CAPTURE_TWO, and only good records */
+    WICK_STAGE_REFUSED = 3          /* that it is refused, and with what; as is every other number */
+};
+
+/* A report between two parts of a capture. A caller keeps it, hands it in by value, and goes on with the one handed back.
+   Where a capture is refused can be read off it. `records` good records were passed, and behind them stands record `records` + 1, counted
+   from 1, at byte 1 + `bytes`, counted from 0: the version byte stands in front. That record is bad where the stage is WICK_STAGE_REFUSED and
+   `refusal` is WICK_BAD_RECORD; it is cut short where the stage is that of a version and `len` is not 0, and no more parts come.
+   A state that no call handed back has a meaning too. All zeros are a report that was begun with zeros. A stage above 3 is WICK_STAGE_REFUSED;
+   `refusal` is looked at beside that stage alone, and is handed on as it is (with 0 the end is not refused, and counts nothing). What is held is
+   looked at beside the stage of a version alone, and where it cannot be, nothing is held: `len` is above WICK_SEASONS_HELD, or the bytes have all
+   of a record, good or bad, or begin with a length above that of the longest. A flag of 0 says that its time is absent, every other that it is
+   there. Numbers are taken at their word; a number of 64 bits that is full stays so. */
+struct wick_seasons_state {
+    struct wick_corridor who;
+    struct wick_boundaries boundaries;
+    uint8_t stage;                  /* one of enum wick_stage */
+    uint8_t refusal;                /* 14 or 15 where the capture is refused, else 0 */
+    uint64_t records, bytes;        /* good records, and how many bytes they have; the version byte is not counted */
+    uint8_t has_last;
+    uint32_t last;                  /* seconds of the last of them */
+    struct wick_season seasons[WICK_SEASONS];   /* of these records */
+    uint8_t has_occupied;
+    uint32_t occupied;              /* seconds of the corridor's last occupied event, from which the next gap goes */
+    uint8_t held[WICK_SEASONS_HELD];
+    uint64_t len;                   /* the next record begins with the first len bytes held; behind them stand zeros */
+};
+
 WICK_SIZE(struct wick_aim, 2);
 WICK_SIZE(struct wick_meaning, 8);
 WICK_SIZE(struct wick_address, 4);
@@ -436,6 +470,7 @@ WICK_SIZE(struct wick_corridor, 16);
 WICK_SIZE(struct wick_boundaries, 12);
 WICK_SIZE(struct wick_season, 48);
 WICK_SIZE(struct wick_seasons, 200);
+WICK_SIZE(struct wick_seasons_state, 336);
 
 /* Reads a request datagram. Refusals 1, 2, 3, 4, 5, 6, 7. */
 struct wick_request wick_request(const uint8_t *bytes, uint64_t length);
@@ -593,10 +628,18 @@ struct wick_record wick_capture_record(const uint8_t *buf, uint64_t room, uint64
 
 /* The four seasons of one corridor: the first has all times below `first`, the last all from `third` on. What is counted as occupied, presses
    or holds adds up, over the four, to all such events of the corridor in the capture. One pass over the bytes in use, whatever the corridor
-   and the boundaries. Refusals 14, 15; then 20 where `first` is not below `second`, or `second` not below `third`. examples/seasons.c prints
-   them of a file. */
+   and the boundaries. Refusals 14, 15; then 20 where `first` is not below `second`, or `second` not below `third`. */
 struct wick_seasons wick_capture_seasons(const uint8_t *buf, uint64_t room, uint64_t used, struct wick_corridor who,
                                          struct wick_boundaries boundaries);
+
+/* The same of a capture that comes in parts, as a long file does: begin, hand in part behind part, and end. A part has any number of bytes,
+   none too, and the capture may be cut anywhere, also inside a record. The end gives what wick_capture_seasons gives of all parts put together,
+   with the same refusals. It changes nothing: it may be asked after any part, and more may follow. From WICK_STAGE_REFUSED on no part changes
+   anything. Nothing of a part is looked at after its call, and the time of a call does not depend on the parts before. examples/seasons.c
+   prints the seasons of a file. */
+struct wick_seasons_state wick_seasons_begin(struct wick_corridor who, struct wick_boundaries boundaries);
+struct wick_seasons_state wick_seasons_part(struct wick_seasons_state state, const uint8_t *part, uint64_t length);
+struct wick_seasons wick_seasons_end(struct wick_seasons_state state);
 
 #ifdef __cplusplus
 }

@@ -2147,6 +2147,251 @@ def four_seasons():
         yield from part
 
 
+# W-213: the seasons of a capture that comes part by part. What is asked at the end is asked of all parts put together, so most of these
+# cases cut one capture in many ways, and ask behind every part.
+
+END = "seasons_end"
+PART_MOST = 1361  # the bytes of the longest part that a line holds
+
+
+def begin(target, boundaries=RISING, mac=MAC, instance=INSTANCE):
+    return seasons(target, boundaries, mac, instance).replace("seasons", "seasons_begin", 1)
+
+
+def part(run):
+    return call("seasons_part", run)
+
+
+def came(width, parts, boundaries=RISING):
+    """The corridor's seasons begun anew, and each part, the seasons asked for behind it."""
+    yield begin(corridor_target(width), boundaries)
+    for run in parts:
+        yield from [part(run), END]
+
+
+def mixed_records(width):
+    """Few records that leave no season as another: three occupied events with two gaps, a press, a hold, and one of another type."""
+    kinds = [(999, OCCUPIED), (1000, OCCUPIED), (1000, PRESS), (1700, OCCUPIED), (2000, 3), (3000, HOLD)]
+    return [happened(width, seconds, type_) for seconds, type_ in kinds]
+
+
+def pieces(run, size):
+    """The run in parts of this size; the last may be shorter."""
+    return [run[at:at + size] for at in range(0, len(run), size)]
+
+
+def before_the_first_begin():
+    """As begun with 23 bytes 00: boundaries that do not rise. This has to stand before every other call of the three."""
+    yield from [END, part(b""), END, part(b"\x01"), END]
+    ours = record(0, event(0, OCCUPIED, bytes(1), 3, bytes(6)))
+    yield from [part(ours), END, part(ours[:7]), END, part(ours[7:]), END, "capture_show"]
+    # and 23 bytes 00 handed in
+    yield from [begin(0, (0, 0, 0), bytes(6), 0), END, part(b"\x01" + ours), END, begin(0, (0, 1, 2), bytes(6), 0), part(b"\x01" + ours), END]
+
+
+def cut_everywhere():
+    """A small capture in two parts, cut at every place; asked for behind both."""
+    for version, width in VERSIONS:
+        run = bytes([version]) + b"".join(mixed_records(width)[1:4])
+        for place in range(len(run) + 1):
+            yield from came(width, [run[:place], run[place:]], (1000, 1700, 1701) if place % 2 else RISING)
+
+
+def single_bytes():
+    """One byte each, and two, three and more, with empty parts between them."""
+    for version, width in VERSIONS:
+        yield from came(width, pieces(bytes([version]) + b"".join(mixed_records(width)[1:4]), 1))
+        run = bytes([version]) + b"".join(mixed_records(width))
+        for size in [2, 21, 64] if version == 1 else [5, 20, 22]:
+            yield from came(width, [given for piece in pieces(run, size) for given in ([b"", piece] if size % 2 else [piece])])
+        # not asked for before the end, and then twice
+        yield begin(corridor_target(width))
+        yield from [part(piece) for piece in pieces(run, 4)] + [END, END, part(b""), END]
+
+
+def record_by_record():
+    """Parts that end with each record; a gap from one part to the next, with a neighbour's part between; seasons that change there."""
+    for version, width in VERSIONS:
+        front = bytes([version])
+        times = [0, 999, 1000, 1001, 1999, 1999, 2000, 2999, 3000, COUNT_MOST]
+        for type_ in COUNTED:
+            yield from came(width, [front] + [happened(width, seconds, type_) for seconds in times])
+        strange = [happened(width, seconds, mac=MAC[::-1]) for seconds in times]
+        turns = [run for ours, theirs in zip(occupied_at(width, times), strange) for run in [ours, theirs]]
+        yield from came(width, [front] + turns)
+        yield from came(width, [front + turns[0]] + [before[9:] + behind[:9] for before, behind in zip(turns, turns[1:])])
+        # the longest gap in each of the parts
+        for gaps in [[9, 5, 1], [5, 9, 1], [1, 5, 9], [9, 9, 0]]:
+            sums = [1100 + sum(gaps[:count]) for count in range(4)]
+            yield from came(width, [front] + occupied_at(width, sums))
+
+
+def parts_of_no_capture():
+    """No byte at all; unknown versions, with good bytes behind them; boundaries that do not rise stand behind both."""
+    for order in ORDERS:
+        yield from [begin(corridor_target(3), order), END, part(b""), END, part(b""), END]
+        yield from [part([3, 0, 255, 0x5A][order[0] // 10 - 1:][:1]), END]
+    for version in UNKNOWN_VERSIONS:
+        for good, width in VERSIONS:
+            run = bytes([good]) + b"".join(occupied_at(width, [12, 15]))
+            yield from came(width, [b"", bytes([version]), run[1:], run])
+            yield from came(width, [bytes([version]) + run])
+
+
+def parts_of_every_order():
+    """Boundaries that do not rise, over parts that are good, cut short and good again, and bad."""
+    for number, order in enumerate(ORDERS):
+        version, width = VERSIONS[number % 2]
+        run = bytes([version]) + b"".join(occupied_at(width, [9, 10, 20, 30]))
+        yield from came(width, [run[:1], run[1:30], run[30:], run[1:]], order)
+
+
+def bad_parts():
+    """Each bad record at the end of the first part, in a part of its own, and cut itself; then good bytes: what was bad stays so."""
+    for version, width in VERSIONS:
+        good = occupied_at(width, [12, 15])
+        front = bytes([version]) + good[0]
+        behind = good[1] * 4
+        bads = list(bad_records(width, 12, 12)) + [replaced(good[0], len(good[0]) - 1, good[0][-1] ^ 0x01), happened(width, 12, data=b"")]
+        for number, bad in enumerate(bads):
+            order = ORDERS[0] if number % 4 else ORDERS[1 + number % 12]
+            yield from came(width, [bytes([version]) + bad, behind], order)
+            yield from came(width, [front, bad, behind], order)
+            middle = 1 + number % max(1, len(bad) - 1)
+            yield from came(width, [front + bad[:middle], bad[middle:] + behind], order)
+
+
+def lengths_of_records():
+    """Every length about the least and the longest record, and great ones; few bytes behind it, and more than it counts."""
+    for version, width in VERSIONS:
+        longest = 4 + 11 + width + 48
+        front = bytes([version]) + happened(width, 5)
+        whole = happened(width, 7, data=bytes([INSTANCE]) + pattern(47))
+        for length in [0, 1, 2, 3, 4, 5, 11 + width, 14 + width, 15 + width, longest - 1, longest, longest + 1, longest + 2, 255, 256, 0x4200, 32768, 65535]:
+            given = wide(length, 2) + whole[2:]
+            yield from came(width, [front + given[:2], given[2:] + b"\x00", whole * 3])
+        # as long as they say: a datagram with a byte more, and one of 49 data bytes
+        for datagram in [whole[6:] + b"\x00", event(corridor_target(width), OCCUPIED, bytes([INSTANCE]) + pattern(48), width), bytes(300)]:
+            yield from came(width, [front, record(7, datagram), whole])
+
+
+def longest_records():
+    """The longest record of each layout, cut at every place near its ends, and asked for at the cut."""
+    for version, width in VERSIONS:
+        front = bytes([version]) + happened(width, 1000)
+        whole = happened(width, 1007, data=bytes([INSTANCE]) + pattern(47))
+        for place in list(range(9)) + [20, 40] + list(range(len(whole) - 4, len(whole))):
+            yield from came(width, [front + whole[:place], whole[place:], happened(width, 1010)])
+        yield from came(width, [front + whole[:-9]] + pieces(whole[-9:] + whole[:9], 1) + [whole[9:]])
+        yield from came(width, [bytes([version]), whole[:-1], whole[-1:] + whole[:-1], whole[-1:]])
+
+
+def times_between_parts():
+    """Seconds that fall, stay and rise from one part to the next, and in one part; cut inside the seconds too."""
+    pairs = [(100, 99), (100, 100), (100, 101), (0, 0), (1, 0), (256, 255), (255, 256), (65536, 65535), (COUNT_MOST, COUNT_MOST),
+             (COUNT_MOST, COUNT_MOST - 1), (COUNT_MOST, 0), (2 ** 31, 2 ** 31 - 1), (2 ** 31 - 1, 2 ** 31), (1000, 1000), (1000, 999)]
+    for number, (first, second) in enumerate(pairs):
+        version, width = VERSIONS[number % 2]
+        runs = [happened(width, first), happened(width, second), happened(width, COUNT_MOST, HOLD)]
+        yield from came(width, [bytes([version]) + runs[0], runs[1], runs[2]])
+        yield from came(width, [bytes([version]) + runs[0] + runs[1][:4], runs[1][4:] + runs[2]])
+        # a neighbour's time counts too
+        strange = happened(width, first, 3, MAC[::-1], 1, b"")
+        yield from came(width, [bytes([version]) + strange, runs[1]])
+
+
+def begun_anew():
+    """Begun anew inside a record, behind a bad one, behind another version, behind good ones; other corridors, boundaries and layouts."""
+    for number in range(2):
+        (version, width), (other, other_width) = VERSIONS[number], VERSIONS[1 - number]
+        target = corridor_target(width)
+        run = bytes([version]) + b"".join(mixed_records(width))
+        otherwise = bytes([other]) + b"".join(mixed_records(other_width))
+        for before in [b"", b"\x03", run[:1], run[:30], run[:-1], run, run + run, otherwise, otherwise[:1], otherwise[:50], b"\x01\x00\x00"]:
+            yield from [begin(target, (5, 4, 3)), part(before), begin(target), END, part(run), END]
+            yield from [begin(target), part(before), END, begin(target, (999, 1000, 1700)), part(run[:40]), part(run[40:]), END]
+        yield from [begin(target), begin(target), part(run), begin(target), begin(target + 1), part(run), END]
+        # the part behind is a record of the one before
+        yield from [begin(target), part(run[:1]), begin(target), part(run[1:]), END, begin(target), part(run), part(run[1:]), END]
+
+
+def corridors_of_parts():
+    """Neighbours, targets too large for the layout, and instances over 31: the same parts for each."""
+    for version, width in VERSIONS:
+        target = corridor_target(width)
+        carried = [INSTANCE, 31, 32, 37, 64, 133, 255]
+        run = bytes([version]) + b"".join(happened(width, 1000 + 100 * number + place, type_, data=bytes([instance]))
+                                          for number, type_ in enumerate([6, 0, 6, 1]) for place, instance in enumerate(carried))
+        asked_for = [(MAC, target, instance) for instance in carried + [0, 69]] + list(neighbours(width))[::3]
+        asked_for += [(MAC, target + 256 ** width, INSTANCE), (MAC, target + 2 ** 31, INSTANCE), (MAC, 2 ** 32 - 1, INSTANCE)]
+        for mac, other, instance in asked_for:
+            yield begin(other, RISING, mac, instance)
+            yield from [part(run[:100]), part(run[100:101]), part(run[101:]), END]
+        crowd = [happened(width, 1010 + place, [6, 0, 1][place % 3], mac, other, bytes([instance]))
+                 for place, (mac, other, instance) in enumerate(neighbours(width))]
+        yield from came(width, [bytes([version]) + happened(width, 1000)] + crowd[::2] + [happened(width, 1100)])
+
+
+def captures_beside_parts():
+    """Parts between the calls on the carried capture, of another layout, and those calls between parts: neither touches the other."""
+    for number, (way, run_way) in enumerate(zip(APPENDS, RUNS)):
+        (version, width), (other, other_width) = VERSIONS[number], VERSIONS[1 - number]
+        target, other_target = corridor_target(width), corridor_target(other_width)
+        run = bytes([version]) + b"".join(mixed_records(width))
+        parts = pieces(run, 17)
+        yield from fresh_capture(other, 200) + [begin(target)]
+        for place, piece in enumerate(parts):
+            yield from [part(piece), way(990 + 40 * place, event(other_target, [6, 0, 1][place % 3], bytes([INSTANCE]), other_width))]
+            yield from [END, seasons(other_target), "capture_show"]
+        yield from [run_way(3000, led([event(other_target, 6, bytes([INSTANCE]), other_width)] * 2)), END, seasons(other_target)]
+        # handed in, emptied, opened, counted and cut back between parts; seasons of other boundaries asked of it
+        yield from [begin(target, (999, 1000, 2000)), part(run[:33]), capture_set(len(run), run), seasons(target), part(run[33:70])]
+        yield from ["capture_open", "capture_count", part(run[70:]), capture_set(40, run), "capture_prefix", END, seasons(target), "capture_show"]
+        yield from [part(b"\x00"), END, seasons(target), "capture_show", capture_empty(other), END, seasons(target, (3, 2, 1)), "capture_show"]
+        yield from [begin(target, (3, 2, 1)), seasons(target), END, part(run), seasons(target), END, "capture_show"]
+        # no buffer, and one that claims too much, are the capture's affair
+        yield from [capture_set(0, b""), END, capture_set(USE_MOST, run), begin(target), part(run), END, seasons(target), "capture_show"]
+
+
+def years_in_parts():
+    """Years by chance, cut by chance; some damaged. Asked for at the end, and of some behind every part."""
+    chance = Chance(14)
+    for number in range(40):
+        version, width = VERSIONS[number % 2]
+        year = list(some_year(chance, width, 8 + chance.below(30)))
+        run = bytes([version]) + b"".join(year_records(width, year))
+        if chance.one_in(4):
+            run = damaged_run(chance, run)
+        mac, target, instance = (MAC, corridor_target(width), INSTANCE) if chance.below(3) else some_corridor(chance, year)
+        yield begin(target, some_boundaries(chance, year), mac, instance)
+        for piece in cut(run, chance) + cut(b"", chance):
+            yield part(piece)
+            if number % 3 == 0:
+                yield END
+        yield END
+
+
+def long_captures():
+    """Captures longer than any buffer here: parts as long as a line holds, and of odd sizes; then a record more, and one cut short."""
+    for version, width in VERSIONS:
+        target = corridor_target(width)
+        kinds = [6, 7, 0, 6, 3, 1, 6, 6, 2, 0]
+        records = [happened(width, 30 * place + place % 7, kinds[place % 10], target=target ^ (place % 4 == 3)) for place in range(140)]
+        run = bytes([version]) + b"".join(records)
+        for size in [PART_MOST, 1000, 257]:
+            yield begin(target)
+            yield from [part(piece) for piece in pieces(run, size)]
+            yield from [END, part(happened(width, 4300)), END, part(happened(width, 4300)[:-1]), END]
+        yield from came(width, pieces(run, 700), (900, 2100, 4000))
+
+
+def seasons_in_parts():
+    for kind in [before_the_first_begin(), cut_everywhere(), single_bytes(), record_by_record(), parts_of_no_capture(), parts_of_every_order(),
+                 bad_parts(), lengths_of_records(), longest_records(), times_between_parts(), begun_anew(), corridors_of_parts(),
+                 captures_beside_parts(), years_in_parts(), long_captures()]:
+        yield from kind
+
+
 # Lines that are no call
 
 def filled(line, size):
@@ -2166,6 +2411,8 @@ LONG_LINES = [
     filled("capture_run 00 00 00 07 /" + " 00" * 1356, 4095), filled("capture_run 00 00 00 07 /" + " 00" * 1356, 4096),
     filled("capture_run_at 00 00 00 07 /" + " 00" * 1355, 4096),
     filled("seasons" + " 00" * 23, 4095), filled("seasons" + " 00" * 23, 4096),
+    filled("seasons_begin" + " 00" * 23, 4095), "seasons_part 01", filled("seasons_begin" + " 00" * 23, 4096), filled(END, 4095), filled(END, 4096), END,
+    filled("seasons_part" + " 00" * 1362, 4097), END, filled("seasons_part" + " 00" * 1361, 4096), END, "seasons_part" + " 00" * 1361, END,
 ]
 
 # By the rows of the table, from its first.
@@ -2224,6 +2471,12 @@ NO_CALLS = [
     "seasons" + " 00" * 22 + " 0", "seasons" + " 00" * 22 + " zz", "seasons 7C:BA:CC:2F:40:2E",
     "seasons /", "seasons" + " 00" * 23 + " /", "seasons" + " 00" * 11 + " /" + " 00" * 12, "seasons" + " 00" * 23 + " /" + " 00" * 23,
     "seasons", "seasons 00", "seasons" + " 00" * 11, "seasons" + " 00" * 22, "seasons" + " 00" * 24, "seasons" + " 00" * 46,
+    "seasons_begi", "seasons_begins", "Seasons_begin" + " 00" * 23, "seasons_parts", "season_part", "seasons_ends", "seasons_en", "begin", "part", "end",
+    "seasonsbegin", "seasons_part_", "seasons_begin" + " 00" * 22 + " 0", "seasons_part 1", "seasons_part 001", "seasons_part 01 zz", "seasons_end zz",
+    "seasons_begin /", "seasons_begin" + " 00" * 23 + " /", "seasons_begin" + " 00" * 11 + " /" + " 00" * 12, "seasons_part /", "seasons_part 03 /",
+    "seasons_part / 03", "seasons_part 03 / 03", "seasons_end /", "seasons_end / 00",
+    "seasons_begin", "seasons_begin 00", "seasons_begin" + " 00" * 22, "seasons_begin" + " 00" * 24, "seasons_begin" + " 00" * 46, "seasons_end 00",
+    "seasons_end" + " 00" * 23,
     "help 00", "help /", "help zz", "Help", "helps", "name 01 01", "name 01 / 00", "name 01 01 01 / 00",
 ]
 
@@ -2239,12 +2492,16 @@ CALLS_SET_OTHERWISE = [
     " capture_run_at  00 00 00 08 / 00 0e 5a 43 7C bA Cc 2f 40 2e 00 00 3b 03 00 6A", "capture_run_at 00 00 00 07 / ", "capture_show",
     "  seasons  7c ba cc 2f 40 2e  00 00 00 3b  05  00 00 00 07  00 00 00 08  00 00 00 0a  ",
     " seasons 7C bA Cc 2f 40 2e 00 00 00 3b 05 00 00 00 0a 00 00 00 0A 00 00 00 0b",
+    "  seasons_begin  7c ba Cc 2F 40 2e  00 00 00 3b  05  00 00 00 07  00 00 00 08  00 00 00 0a  ", " seasons_end ", "seasons_part  ",
+    "  seasons_part  01  00 13 00 00 00 07 5a 43 7C ba CC 2f 40 2E  00 00 3b 06 01 05 6b ", "seasons_part 00", " seasons_part 13 00 00 00 07 5A 43 ",
+    "seasons_end", "seasons_part 7c ba cc 2f 40 2e 00 00 3b 06 01 05 6b", "  seasons_end  ",
 ]
 
 # What the run carries, set before the lines that are no call and shown behind them.
 CARRIED = ["fresh_request", "fresh_reply", "feed_request 04 00", "feed_reply A1 00 02", "book_fresh", "ask 40",
-           capture_set(0, pattern(30)), SOME_SUMMARY, capture_empty(1), append_at(7, event(59, 3, b"")), append(7, b"")]
-CARRIED_SHOWN = ["show_request", "show_reply", "book_show", "capture_show"]
+           capture_set(0, pattern(30)), SOME_SUMMARY, capture_empty(1), append_at(7, event(59, 3, b"")), append(7, b""),
+           begin(59), part(b"\x01" + happened(3, 7, target=59) + happened(3, 1007, target=59)[:9])]
+CARRIED_SHOWN = ["show_request", "show_reply", "book_show", "capture_show", part(happened(3, 1007, target=59)[9:]), END]
 
 
 def no_calls():
@@ -2272,6 +2529,7 @@ KINDS = [
     ("captures (W-207)", captures),
     ("runs of datagrams (W-208)", runs),
     ("seasons of corridors (W-213)", four_seasons),
+    ("seasons part by part (W-213)", seasons_in_parts),
     ("lines that are no call", no_calls),
 ]
 

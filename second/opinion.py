@@ -699,6 +699,33 @@ def season_in(stretch, occupied, presses, holds):
     return Season(len(occupied), len(presses), len(holds), max(gaps) if gaps else None, sum(gaps), len(gaps))
 
 
+# "Refusals: 14 and 15 as before, then 20 for boundaries that do not rise." Equal ones do not rise.
+def seasons_in(buffer, used, corridor, boundaries):
+    """The four seasons of a corridor, from all records of a capture."""
+    records = records_in(buffer, used)
+    refuse(20, any(later <= earlier for earlier, later in zip(boundaries, boundaries[1:])))
+    times = [times_in(VERSIONS[buffer[0]], records, corridor, type_) for type_ in [OCCUPIED, PRESS, HOLD]]
+    return [season_in(stretch, *times) for stretch in stretches(boundaries)]
+
+
+# Part by part: "all parts since `seasons_begin` put together, all in use".
+class Parts:
+    """A corridor and its boundaries, and the bytes of the parts that came."""
+
+    def __init__(self, corridor, boundaries):
+        self.corridor = corridor
+        self.boundaries = boundaries
+        self.run = b""
+
+    def take(self, part):
+        """Takes one part more, whatever it is."""
+        self.run += part
+
+    def seasons(self):
+        """The four seasons of all parts put together. Nothing moves."""
+        return seasons_in(self.run, len(self.run), self.corridor, self.boundaries)
+
+
 class Capture:
     """A buffer, its bytes in use as they are claimed, a summary and a mark. At first, a buffer of no bytes."""
 
@@ -780,13 +807,9 @@ class Capture:
         refuse(15, place < VERSION_SIZE)
         return record_at(width, self.buffer[:self.used], place)
 
-    # "Refusals: 14 and 15 as before, then 20 for boundaries that do not rise." Equal ones do not rise.
     def seasons(self, corridor, boundaries):
         """The four seasons of a corridor, from all records. Nothing moves."""
-        records = records_in(self.buffer, self.used)
-        refuse(20, any(later <= earlier for earlier, later in zip(boundaries, boundaries[1:])))
-        times = [times_in(VERSIONS[self.buffer[0]], records, corridor, type_) for type_ in [OCCUPIED, PRESS, HOLD]]
-        return [season_in(stretch, *times) for stretch in stretches(boundaries)]
+        return seasons_in(self.buffer, self.used, corridor, boundaries)
 
 
 # The calls of docs/BENCH.md: words and groups
@@ -930,6 +953,10 @@ def season_fields(number, season):
             "longest", time_field(season.longest), "total", season.total, "gaps", season.gaps]
 
 
+def seasons_fields(seasons):
+    return [field for number, season in enumerate(seasons, 1) for field in season_fields(number, season)]
+
+
 # The groups of the calls on the capture
 
 CAPTURE_BUFFER_MOST = 1300
@@ -963,6 +990,11 @@ def corridor_of(group):
 def boundaries_of(group):
     """The three boundaries behind it."""
     return [high_first(group[at:at + 4]) for at in range(11, SEASONS_SIZE, 4)]
+
+
+def parts_of(group):
+    """No part yet, of the corridor and the boundaries of these 23 bytes."""
+    return Parts(corridor_of(group), boundaries_of(group))
 
 
 # "Reading a written frame gives its fields back; writing a frame that was read gives its bytes back": a relay reads a
@@ -1118,12 +1150,13 @@ REPLY_DATA_CALLS = {
 
 
 class Bench:
-    """One run of the bench, with the book, the two readers and the capture that it carries."""
+    """One run of the bench, with the book, the two readers, the capture and the parts of another that it carries."""
 
     def __init__(self):
         self.book = Book()
         self.readers = {}
         self.capture = Capture()
+        self.parts = parts_of(bytes(SEASONS_SIZE))
         self.calls = {}
         self.calls.update(DATAGRAM_CALLS)
         self.calls.update(PART_CALLS)
@@ -1133,6 +1166,7 @@ class Bench:
             self.readers[line] = Reader(line)
             self.calls.update(self.line_calls(line))
         self.calls.update(self.capture_calls())
+        self.calls.update(self.parts_calls())
         self.calls["help"] = ([exactly(0)], plain(lambda none: ["calls"] + list(self.calls)))
 
     def book_calls(self):
@@ -1212,8 +1246,7 @@ class Bench:
                     + ["mark"] + mark_fields(capture.mark))
 
         def seasons(group):
-            found = capture.seasons(corridor_of(group), boundaries_of(group))
-            return [field for number, season in enumerate(found, 1) for field in season_fields(number, season)]
+            return seasons_fields(capture.seasons(corridor_of(group), boundaries_of(group)))
 
         return {
             "capture_set": ([exactly(8), at_most(CAPTURE_BUFFER_MOST)], plain(set_capture)),
@@ -1232,6 +1265,23 @@ class Bench:
             "capture_record": ([exactly(8)], plain(lambda place: record_fields(capture.record(high_first(place))))),
             "capture_show": ([exactly(0)], plain(lambda none: show())),
             "seasons": ([exactly(SEASONS_SIZE)], plain(seasons)),
+        }
+
+    # "Before the first `seasons_begin` the state is as begun with 23 bytes 00. The carried capture is not touched by these three."
+    def parts_calls(self):
+        """The calls on the parts that are carried."""
+        def begin(group):
+            self.parts = parts_of(group)
+            return []
+
+        def take(part):
+            self.parts.take(part)
+            return []
+
+        return {
+            "seasons_begin": ([exactly(SEASONS_SIZE)], plain(begin)),
+            "seasons_part": ([SOME], plain(take)),
+            "seasons_end": ([exactly(0)], plain(lambda none: seasons_fields(self.parts.seasons()))),
         }
 
     def answer(self, line):

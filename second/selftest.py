@@ -1,13 +1,18 @@
-"""Self-checks of the second program: what the documents state, asked of second/opinion.py.
+"""Self-checks of the second program: what the documents state, asked of second/opinion.py and second/sheet.py.
 
     python3 second/selftest.py
 """
 
 import bisect
+import datetime
+import os
+import subprocess
+import sys
 import unittest
 
 import cases
 import opinion
+import sheet
 
 # The bench cases of document 01 with the results that it states, and the example of docs/BENCH.md.
 STATED = [
@@ -328,6 +333,35 @@ STATED_LATER = [
      + " records 2 first 263 last 264 counts 0 0 0 2 0 0 0 0 0 0 0 mark 6 last 5"),
     ("name 00 14 / FF FF FF FF FF FF FF FF FF FF",
      "0 count 10 before FF FF FF FF FF FF FF FF FF FF after 4E 4F 54 5F 52 49 53 49 4E 47"),
+    # W-213 part by part: "before the first `seasons_begin` the state is as begun with 23 bytes 00", whose boundaries do not rise
+    ("seasons_end", "15"),
+    ("seasons_part", "0"),
+    ("seasons_end", "15"),
+    ("seasons_part 01", "0"),
+    ("seasons_end", "20"),
+    # "what `seasons` would answer of all parts since `seasons_begin` put together", "so that it may be asked after every part"
+    ("seasons_begin " + CORRIDOR + BOUNDARIES, "0"),
+    ("seasons_end", "15"),
+    ("seasons_part 01 00 13", "0"),
+    ("seasons_end", "15"),
+    ("seasons_part 00 00 00 10 " + OCCUPIED, "0"),
+    ("seasons_end", four(NOTHING_IN_IT, ONE_IN_IT, NOTHING_IN_IT, NOTHING_IN_IT)),
+    ("seasons_part" + record_at(19, OCCUPIED) + record_at(48, PRESS), "0"),
+    ("seasons_end", four(NOTHING_IN_IT, "occupied 2 presses 0 holds 0 longest 3 total 3 gaps 1", NOTHING_IN_IT,
+                         "occupied 0 presses 1 holds 0 longest absent total 0 gaps 0")),
+    # a time that falls is 15, whatever stands behind it; "the carried capture is not touched"
+    ("seasons_part" + record_at(47, PRESS), "0"),
+    ("seasons_end", "15"),
+    ("seasons_part" + record_at(50, PRESS), "0"),
+    ("seasons_end", "15"),
+    ("seasons_begin " + CORRIDOR + " 00" * 12, "0"),
+    ("seasons_end", "15"),
+    ("seasons_part 03", "0"),
+    ("seasons_end", "14"),
+    ("seasons_part 01", "0"),
+    ("seasons_end", "14"),
+    ("seasons " + CORRIDOR + " 00 00 00 00 00 00 00 01 00 00 00 02",
+     four(NOTHING_IN_IT, NOTHING_IN_IT, NOTHING_IN_IT, "occupied 2 presses 0 holds 0 longest 4294967293 total 4294967293 gaps 1")),
 ]
 
 # The events that source 002 prints, in the layout of its table: document 01 keeps to the table.
@@ -427,6 +461,117 @@ def seasons_event_by_event(year, boundaries, corridor):
                 season[5] += 1
             before[place] = seconds
     return [tuple(season) for season in seasons]
+
+
+YEAR = os.path.join(os.path.dirname(os.path.abspath(__file__)), os.pardir, "bench", "year")
+
+
+def made_up_year(*words):
+    """What bench/year writes."""
+    return subprocess.run([sys.executable, "-B", YEAR, *words], stdout=subprocess.PIPE, check=True).stdout
+
+
+# docs/SHEET.md: a sheet by its rules, each line counted out by hand.
+SHEET_TEXT = """\
+Corridor 7C:BA:CC:2F:40:2E, target 59, instance 5, times in UTC
+
+season  from                 to                    occupied    presses      holds
+     1  -                    1970-01-01 00:00:16          0          0          0
+     2  1970-01-01 00:00:16  1970-01-01 12:05:00          3          1          0
+     3  1970-01-01 12:05:00  2026-03-01 00:00:00          1          0         41
+     4  2026-03-01 00:00:00  -                            0          0          1
+
+season        longest gap           mean gap        total seconds       gaps
+     1                  -                  -                    0          0
+     2        10 h 59 min         5 h 59 min                43120          2
+     3                  -                  -                    0          0
+     4                  -                  -                    0          0
+
+occupied
+     1                                            0
+     2  ########################################  3
+     3  #############                             1
+     4                                            0
+
+presses
+     1                                            0
+     2  ########################################  1
+     3                                            0
+     4                                            0
+
+holds
+     1                                            0
+     2                                            0
+     3  ########################################  41
+     4  #                                         1
+"""
+
+
+class Taker:
+    """The same told part by part, in few bytes: what is held of a record, the last time, four seasons and the last occupied event."""
+
+    def __init__(self, corridor, boundaries):
+        self.corridor, self.boundaries = corridor, boundaries
+        self.width, self.refused, self.held = None, None, b""
+        self.last = 0
+        self.seasons = [[0, 0, 0, None, 0, 0] for _ in range(4)]
+        self.occupied = None  # the season and the time of the last one
+
+    def take(self, part):
+        for place in range(len(part)):
+            if self.refused is None:
+                self.take_byte(part[place:place + 1])
+
+    def take_byte(self, byte):
+        if self.width is None:
+            self.width = {1: 3, 2: 2}.get(byte[0])
+            self.refused = None if self.width else 14
+            return
+        self.held += byte
+        if len(self.held) < 2:
+            return
+        length = self.held[0] * 256 + self.held[1]
+        if not 4 <= length <= 63 + self.width:
+            self.refused = 15
+        elif len(self.held) == 2 + length:
+            self.take_record(opinion.high_first(self.held[2:6]), self.held[6:])
+            self.held = b""
+
+    def take_record(self, seconds, datagram):
+        try:
+            event = opinion.read_event(self.width, datagram)
+        except opinion.Refusal:
+            self.refused = 15
+            return
+        if seconds < self.last:
+            self.refused = 15
+            return
+        self.last = seconds
+        if event.type in [6, 0, 1] and (event.mac, event.target, event.data[0]) == self.corridor:
+            number = bisect.bisect_right(self.boundaries, seconds)
+            season = self.seasons[number]
+            season[[6, 0, 1].index(event.type)] += 1
+            if event.type == 6:
+                if self.occupied and self.occupied[0] == number:
+                    gap = seconds - self.occupied[1]
+                    season[3:] = [max(gap, season[3] or 0), season[4] + gap, season[5] + 1]
+                self.occupied = number, seconds
+
+    def answer(self):
+        """The number, and the seasons where it is 0."""
+        if self.refused is None and (self.width is None or self.held):
+            return 15, None
+        if self.refused is None and not self.boundaries[0] < self.boundaries[1] < self.boundaries[2]:
+            return 20, None
+        return self.refused or 0, None if self.refused else [tuple(season) for season in self.seasons]
+
+
+def asked_for_seasons(run, corridor, boundaries):
+    """The number of the answer of `seasons` on a capture of these bytes, all in use, and the seasons."""
+    try:
+        return 0, [tuple(season) for season in opinion.seasons_in(run, len(run), opinion.Corridor(*corridor), boundaries)]
+    except opinion.Refusal as refusal:
+        return refusal.number, None
 
 
 class SelfTest(unittest.TestCase):
@@ -569,6 +714,108 @@ class SelfTest(unittest.TestCase):
                 gaps = [times[place] - times[place - 1] for place in range(1, len(times))]
                 self.assertEqual((season.total, season.gaps), (times[-1] - times[0] if times else 0, max(0, season.occupied - 1)))
                 self.assertEqual((season.total, season.longest), (sum(gaps), sorted(gaps)[-1] if gaps else None))
+
+    def test_seasons_part_by_part(self):
+        chance = cases.Chance(15)
+        seen = set()
+        for _, capture, boundaries, corridor in years(chance):
+            run = capture.buffer
+            if chance.one_in(3):
+                run = cases.damaged_run(chance, run)
+            if chance.one_in(30):
+                run = bytes([chance.pick(cases.UNKNOWN_VERSIONS)]) + run[1:]
+            if chance.one_in(20):
+                boundaries = [chance.pick(boundaries) for _ in range(3)]
+            bench, taker = opinion.Bench(), Taker(corridor, boundaries)
+            mac, target, instance = corridor
+            bench.answer(cases.begin(target, boundaries, mac, instance).encode("ascii"))
+            so_far = b""
+            for part in cases.cut(run, chance):
+                self.assertEqual(bench.answer(cases.part(part[:cases.PART_MOST]).encode("ascii")), "0")
+                taker.take(part[:cases.PART_MOST])
+                so_far += part[:cases.PART_MOST]
+                number, found = asked_for_seasons(so_far, corridor, boundaries)
+                seen.add(number)
+                self.assertEqual(taker.answer(), (number, found))
+                fields = opinion.seasons_fields([opinion.Season(*season) for season in found]) if number == 0 else []
+                self.assertEqual(bench.answer(b"seasons_end"), opinion.text([number] + fields))
+                if len(so_far) <= opinion.CAPTURE_BUFFER_MOST:
+                    bench.answer(cases.capture_set(len(so_far), so_far).encode("ascii"))
+                    self.assertEqual(bench.answer(cases.seasons(target, boundaries, mac, instance).encode("ascii")), bench.answer(b"seasons_end"))
+        self.assertEqual(seen, {0, 14, 15, 20})
+
+    def test_cases_part_by_part(self):
+        taker, asked = Taker((bytes(6), 0, 0), [0, 0, 0]), 0
+        bench = opinion.Bench()
+        for line in cases.seasons_in_parts():
+            answer = bench.answer(line.encode("ascii"))
+            name, _, words = line.partition(" ")
+            if name == "seasons_begin":
+                group = bytes.fromhex(words)
+                taker = Taker((group[:6], opinion.high_first(group[6:10]), group[10]), opinion.boundaries_of(group))
+            elif name == "seasons_part":
+                taker.take(bytes.fromhex(words))
+            elif name == "seasons_end":
+                asked += 1
+                number, found = taker.answer()
+                fields = opinion.seasons_fields([opinion.Season(*season) for season in found]) if number == 0 else []
+                self.assertEqual(answer, opinion.text([number] + fields))
+        self.assertGreater(asked, 1000)
+
+    def test_dates(self):
+        day, end = datetime.date(1968, 1, 1), datetime.date(2108, 12, 31)
+        first, last = datetime.date(1970, 1, 1), datetime.date(2106, 2, 7)
+        while day <= end:
+            word = day.isoformat().encode("ascii")
+            if first <= day <= last:
+                seconds = sheet.boundary_of("FIRST", word)
+                self.assertEqual(seconds, (day - first).days * 86400)
+                self.assertEqual(sheet.time_text(seconds), day.isoformat() + " 00:00:00")
+            else:
+                self.assertRaises(sheet.Wrong, sheet.boundary_of, "FIRST", word)
+            day += datetime.timedelta(1)
+        self.assertEqual(sheet.time_text(2 ** 32 - 1), "2106-02-07 06:28:15")
+        for year in range(1, 2500):
+            for month in range(14):
+                for number in [0, 1, 28, 29, 30, 31, 32]:
+                    try:
+                        found = bool(datetime.date(year, month, number))
+                    except ValueError:
+                        found = False
+                    self.assertEqual(sheet.exists(year, month, number), found)
+
+    def test_sheet(self):
+        events = [(16, 6), (20, 0), (39600, 6), (43136, 6), (43500, 6)] + [(50000, 1)] * 41 + [(2 ** 32 - 1, 1)]
+        run = b"\x01" + b"".join(cases.record(seconds, cases.event(59, type_, bytes([5]))) for seconds, type_ in events)
+        words = b"- 7c-ba-cc-2f-40-2e 059 5 16 43500 2026-03-01".split()
+        self.assertEqual(sheet.printed([b"--text"] + words, lambda: run), (SHEET_TEXT.encode("ascii"), b""))
+        self.assertEqual(sheet.printed(words, lambda: run)[0], b"season,from,to,occupied,presses,holds,longest gap,total,gaps\n"
+                         b"1,,16,0,0,0,,0,0\n2,16,43500,3,1,0,39584,43120,2\n3,43500,1772323200,1,0,41,,0,0\n4,1772323200,,0,0,1,,0,0\n")
+        bars = [line for line in sheet.printed([b"--svg"] + words, lambda: run)[0].split(b"\n") if b"width=\"28\"" in line]
+        self.assertEqual([line.split(b"height=\"")[1].split(b"\"")[0] for line in bars],
+                         b"0 0 0 0 17 5 0 240 5 0 240 0 0 0 5 0".split())
+
+    def test_shares(self):
+        self.assertEqual([sheet.share(*given) for given in [(0, 40, 0), (0, 40, 7), (7, 40, 7), (1, 40, 41), (41, 40, 41), (40, 40, 41), (9, 40, 7)]],
+                         [0, 0, 40, 0, 40, 39, 40])
+        self.assertEqual([sheet.share(count, 240, 2 ** 56) for count in [0, 255, 2 ** 55, 2 ** 56]], [0, 0, 120, 240])
+
+    def test_made_up_year(self):
+        corridor = bytes.fromhex("7CBACC2F402E"), 68, 3
+        for count in [0, 1, 999, 2000, 40000]:
+            for layout, width in [("three", 3), ("two", 2)]:
+                run = made_up_year("7", str(count), "--layout", layout)
+                records = opinion.records_in(run, len(run))
+                self.assertEqual((run[0], len(records)), (4 - width, count))
+                self.assertTrue(all(1767225600 <= record.seconds < 1798761600 for record in records))
+                occupied, presses = (opinion.times_in(width, records, corridor, type_) for type_ in [6, 0])
+                seam = range(1772409600, 1774224000)
+                self.assertFalse([seconds for seconds in presses if seconds in seam])
+                if count >= 40000:
+                    self.assertGreater(len([seconds for seconds in occupied if seconds in seam]), 100)
+                    self.assertEqual(len([seconds for seconds in occupied if seconds % 86400 == 10033]), 365)
+        self.assertEqual(made_up_year("7", "2000"), made_up_year("7", "2000"))
+        self.assertNotEqual(made_up_year("7", "2000"), made_up_year("8", "2000"))
 
     def test_boundaries_that_do_not_rise(self):
         capture = empty_capture(1, 30)

@@ -13,6 +13,7 @@ use bench_parts::Fit;
 use bench_parts::Part;
 use bench_requests::Asked;
 use book::Book;
+use by_parts::SoFar;
 use command::Shape;
 use event::Layout;
 use event::Mac;
@@ -32,6 +33,7 @@ pub struct State {
     request: Held,
     reply: Held,
     capture: Carried,
+    so_far: SoFar,
 }
 
 // The state after a line, and the place behind the answer.
@@ -64,6 +66,7 @@ pub fn fresh() -> State {
         request: reader::fresh(),
         reply: reader::fresh(),
         capture: bench_capture::fresh(),
+        so_far: bench_seasons::fresh(),
     }
 }
 
@@ -310,6 +313,7 @@ fn moved(n: usize, state: State, s: &[u8], t: &[u8]) -> After {
     let q = state.request;
     let r = state.reply;
     let capture = state.capture;
+    let so_far = state.so_far;
     match n / 16 {
         4 => {
             let p = page(n, b, s, t);
@@ -321,6 +325,7 @@ fn moved(n: usize, state: State, s: &[u8], t: &[u8]) -> After {
                     request: q,
                     reply: r,
                     capture,
+                    so_far,
                 },
                 page: answer,
                 held: q,
@@ -337,6 +342,7 @@ fn moved(n: usize, state: State, s: &[u8], t: &[u8]) -> After {
                     request,
                     reply: r,
                     capture,
+                    so_far,
                 },
                 page: Page::Done,
                 held: request,
@@ -353,6 +359,7 @@ fn moved(n: usize, state: State, s: &[u8], t: &[u8]) -> After {
                     request: q,
                     reply,
                     capture,
+                    so_far,
                 },
                 page: Page::Done,
                 held: reply,
@@ -466,6 +473,7 @@ fn stored(
     let request = state.request;
     let reply = state.reply;
     let before = state.capture;
+    let so_far = state.so_far;
     let m = captured(n, before, s, t, store);
     let c = m.carried;
     let head = m.head;
@@ -478,6 +486,7 @@ fn stored(
             request,
             reply,
             capture: c,
+            so_far,
         },
         at: bench_capture::say(out, at, head, tail, summary, shown),
     }
@@ -491,6 +500,29 @@ fn seasons(c: Carried, s: &[u8], store: &[u8], out: &mut [u8], at: usize) -> usi
     bench_seasons::say(out, at, r)
 }
 
+// A call of the report of seasons: over the capture, or of one that comes in parts, which is carried.
+fn reported(n: usize, state: State, s: &[u8], store: &[u8], out: &mut [u8], at: usize) -> Turn {
+    let book = state.book;
+    let request = state.request;
+    let reply = state.reply;
+    let capture = state.capture;
+    if n == 0xD0 {
+        return said(state, seasons(capture, s, store, out, at));
+    }
+    let before = state.so_far;
+    let so_far = bench_seasons::moved(n, before, s);
+    Turn {
+        state: State {
+            book,
+            request,
+            reply,
+            capture,
+            so_far,
+        },
+        at: bench_seasons::tell(out, at, n, so_far),
+    }
+}
+
 fn made(c: Call, state: State, bytes: &[u8], store: &mut [u8], out: &mut [u8], at: usize) -> Turn {
     let n = c.number;
     let g = c.groups;
@@ -501,8 +533,7 @@ fn made(c: Call, state: State, bytes: &[u8], store: &mut [u8], out: &mut [u8], a
         return stored(n, state, s, t, store, out, at);
     }
     if n / 16 == 13 {
-        let capture = state.capture;
-        return said(state, seasons(capture, s, store, out, at));
+        return reported(n, state, s, store, out, at);
     }
     let a = moved(n, state, s, t);
     let next = a.state;

@@ -1,7 +1,8 @@
 // The bench: reads calls from standard input to its end, one to a line, and writes one answer to a line. docs/BENCH.md is
 // the protocol. What a line says and how an answer reads is the business of the crates bench_..; here lines are cut out of
 // the input, calls are made (calls.rt), and answers are written out. A book, a reader of the request line, one of the reply
-// line and a capture are carried by the run, and no function but those that answer a line knows of them.
+// line, a capture and a report that comes in parts are carried by the run, and no function but those that answer a line knows
+// of them.
 mod calls;
 
 use calls::State;

@@ -1,7 +1,7 @@
 // The book of unanswered requests on the bench: as it is handed in, and what is answered of it. docs/BENCH.md, "The book of
 // unanswered requests". It leans on crates bench_words and bench_say, and on crate book for what is said.
 ghost use mathlib.Core.Path.{_≡_};
-ghost use Rattle.bench_say.specs.Said.{PutsAll};
+ghost use Rattle.lent.specs.All.{PutsAll};
 ghost use Rattle.bench_book.specs.Pages.{handedBook, entryTexts, entriesTexts, pageTexts};
 ghost use Rattle.bench_book.specs.Pieces.{numberPieces, commandPieces, pagePieces};
 use bench_say::Pieces;

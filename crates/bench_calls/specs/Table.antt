@@ -95,6 +95,9 @@ table =
     ∷ row "capture_show" 0xCA_1_000_000_FFF
     -- Seasons
     ∷ row "seasons" 0xD0_1_017_017_FFF
+    ∷ row "seasons_begin" 0xD1_1_017_017_FFF
+    ∷ row "seasons_part" 0xD2_1_000_FFF_FFF
+    ∷ row "seasons_end" 0xD3_1_000_000_FFF
     -- Help
     ∷ row "help" 0xB0_1_000_000_FFF
     ∷ []

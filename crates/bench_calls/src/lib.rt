@@ -3,7 +3,7 @@
 ghost use Prim.Native.Nat.{_≤_};
 ghost use mathlib.Core.Path.{_≡_};
 ghost use lib.ListN.{length};
-ghost use Rattle.bench_say.specs.Said.{PutsAll};
+ghost use Rattle.lent.specs.All.{PutsAll};
 ghost use Rattle.bench_words.specs.Words.{wordsAt};
 ghost use Rattle.bench_calls.specs.Table.{sameAs, placeIn, rowOf, helpTexts};
 ghost use Rattle.bench_calls.specs.Called.{measuredOf, Calls, refusedTexts};
@@ -30,7 +30,7 @@ pub enum Called {
 // many the second has at most, as digits of one hexadecimal number. FFF is more than a line can name. A third group may
 // have any. The first digit of a call's number is its family: what is answered of it is of one kind. (7 and 8 write into a
 // buffer, which is their last group of two or of three; A gives the data of a datagram.) New calls stand behind those of theirs.
-const ROWS: [usize; 75] = [
+const ROWS: [usize; 78] = [
     // Datagrams
     0x10_1_000_FFF_FFF, // request
     0x70_2_006_006_FFF, // write_basic
@@ -112,12 +112,15 @@ const ROWS: [usize; 75] = [
     0xCA_1_000_000_FFF, // capture_show
     // Seasons
     0xD0_1_017_017_FFF, // seasons
+    0xD1_1_017_017_FFF, // seasons_begin
+    0xD2_1_000_FFF_FFF, // seasons_part
+    0xD3_1_000_000_FFF, // seasons_end
     // Help
     0xB0_1_000_000_FFF, // help
 ];
 
 // Their names, in the order of the rows, with a blank between two.
-const NAMES: [u8; 802] =
+const NAMES: [u8; 841] =
     *b"request write_basic write_unicast reply reply_data error_code write_reply event event_data \
 write_event event_two event_two_data write_event_two relay_request relay_reply relay_event \
 relay_event_two sum frame known shape fits error_name event_type group_target lights status \
@@ -126,7 +129,8 @@ lowest_gear types filters filter book_fresh book_set ask answer book_show fresh_
 hold_request feed_request close_request show_request settle_request item_request fresh_reply \
 hold_reply feed_reply close_reply show_reply settle_reply item_reply capture_set summary_set \
 mark_set capture_empty capture_append capture_append_at capture_run capture_run_at \
-capture_open capture_count capture_prefix capture_record capture_show seasons help";
+capture_open capture_count capture_prefix capture_record capture_show seasons seasons_begin \
+seasons_part seasons_end help";
 
 // Whether two runs hold the same bytes.
 fn same(s: &[u8], t: &[u8]) -> bool
@@ -167,7 +171,7 @@ fn row_of(name: &[u8]) -> usize
     ensures { λ r. ⌜ r ≡ rowOf (now (name .entry)) ⌝ }
 {
     let k = place(&NAMES, name);
-    if k < 75 { ROWS[k] } else { 0 }
+    if k < 78 { ROWS[k] } else { 0 }
 }
 
 // Whether the groups are those that the row asks for.

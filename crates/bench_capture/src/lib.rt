@@ -5,7 +5,7 @@ ghost use Prim.Native.Nat.{_≤_};
 ghost use mathlib.Core.Path.{_≡_};
 ghost use mathlib.Core.List.{[], _∷_, _++_};
 ghost use Rattle.text.specs.Text.{decimalOf};
-ghost use Rattle.bench_say.specs.Said.{PutsAll};
+ghost use Rattle.lent.specs.All.{PutsAll};
 ghost use Rattle.bench_say.specs.Pieces.{piecesTexts};
 ghost use Rattle.bench_capture.specs.Carried.{atFirst, numberAt, secondsAt, countsAt, tells, captureSet, summarySet, markSet};
 ghost use Rattle.bench_capture.specs.Carried.{becomes, onFound, onAppended, onRan, onRanAt, onOpening, onCounting, onStep, onShow};

@@ -1,7 +1,7 @@
 // What replies and events are read as, and what a writer did, as the bench's answers. docs/BENCH.md, "Datagrams". It leans on
 // crate bench_say, and on crates frame, reply and event for what is said.
 ghost use mathlib.Core.Path.{_≡_};
-ghost use Rattle.bench_say.specs.Said.{PutsAll};
+ghost use Rattle.lent.specs.All.{PutsAll};
 ghost use Rattle.bench_say.specs.Pieces.{piecesTexts};
 ghost use Rattle.bench_datagrams.specs.Datagrams.{bufferTexts, readTexts};
 ghost use Rattle.bench_datagrams.specs.Pieces.{names, replyPieces, codePieces, kindPieces, instancePieces, refusedPieces, readPieces, eventRest, countPieces};

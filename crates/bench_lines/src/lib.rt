@@ -1,7 +1,7 @@
 // The readers of the two lines on the bench: a reader as it is handed in, and what is answered of it. docs/BENCH.md, "Lines".
 // It leans on crates bench_words and bench_say, and on crates reader and stream for what is said.
 ghost use mathlib.Core.Path.{_≡_};
-ghost use Rattle.bench_say.specs.Said.{PutsAll};
+ghost use Rattle.lent.specs.All.{PutsAll};
 ghost use Rattle.bench_lines.specs.Lines.{handedReader, doneTexts, fedTexts, closedTexts, heldTexts, stepTexts, itemTexts};
 ghost use Rattle.bench_lines.specs.Shown.{plainShown, givenShown, fedShown, closedShown, heldShown, stepShown, itemShown, shownTexts, Says};
 ghost use Rattle.bench_say.specs.Pieces.{three};

@@ -1,7 +1,7 @@
 // Reply data as the bench's answers. docs/BENCH.md, "Reply data". It leans on crate bench_say, and on crates maps and filters
 // for what is said.
 ghost use mathlib.Core.Path.{_≡_};
-ghost use Rattle.bench_say.specs.Said.{PutsAll};
+ghost use Rattle.lent.specs.All.{PutsAll};
 ghost use Rattle.bench_maps.specs.Maps.{dataTexts};
 ghost use Rattle.bench_maps.specs.Pieces.{pieces16, pieces32, pieces64, lowestPieces, filtersPieces, entryPieces, dataPieces};
 use bench_say::Pieces;

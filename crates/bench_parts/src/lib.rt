@@ -1,7 +1,7 @@
 // Parts of datagrams as the bench's answers. docs/BENCH.md, "Parts of datagrams". It leans on crate bench_say, and on crates
 // command, error and target for what is said.
 ghost use mathlib.Core.Path.{_≡_};
-ghost use Rattle.bench_say.specs.Said.{PutsAll};
+ghost use Rattle.lent.specs.All.{PutsAll};
 ghost use Rattle.bench_parts.specs.Parts.{partTexts};
 ghost use Rattle.bench_parts.specs.Pieces.{knownKind, ruleKind, shapeKind, fitKind, namePieces, linePieces, devicePieces, numberPieces, partPieces};
 use bench_say::Pieces;

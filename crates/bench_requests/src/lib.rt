@@ -1,7 +1,7 @@
 // A request's reading as the bench's answer. docs/BENCH.md, "Datagrams". It leans on crate bench_say, and on crates request,
 // meaning and target for what is said.
 ghost use mathlib.Core.Path.{_≡_};
-ghost use Rattle.bench_say.specs.Said.{PutsAll};
+ghost use Rattle.lent.specs.All.{PutsAll};
 ghost use Rattle.bench_say.specs.Pieces.{piecesTexts};
 ghost use Rattle.bench_requests.specs.Requests.{contentsTexts, askedTexts};
 ghost use Rattle.bench_requests.specs.Pieces.{names, lightsPieces, meaningPieces, headPieces, askedPieces, readingRest};

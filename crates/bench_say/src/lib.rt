@@ -2,7 +2,8 @@
 // answers the place behind what it put. It leans on crates lent, words and text, which put one text. docs/BENCH.md, "A line".
 ghost use mathlib.Core.List.{[], _∷_};
 ghost use Rattle.text.specs.Text.{hexOf};
-ghost use Rattle.bench_say.specs.Said.{PutsAll, runOf};
+ghost use Rattle.lent.specs.All.{PutsAll};
+ghost use Rattle.bench_say.specs.Said.{runOf};
 ghost use Rattle.bench_say.specs.Pieces.{pieceTexts, piecesTexts};
 
 // Three pieces of an answer by value, one behind the other. A piece is a kind and a number. The last hexadecimal digit of its kind says

@@ -1,4 +1,5 @@
 -- what the contracts cite
 pub mod Told
+pub mod Carried
 -- what only serves proofs
 pub mod Pieces

@@ -1,11 +1,13 @@
-// The report of seasons on the bench: what is handed in, and what is answered. docs/BENCH.md, "Seasons". It leans on crates bench_words and
-// bench_say, and on crates season and report for what is said.
-ghost use Rattle.bench_say.specs.Said.{PutsAll};
+// The report of seasons on the bench: what is handed in, what is carried of one that comes in parts, and what is answered. docs/BENCH.md,
+// "Seasons". It leans on crates bench_words and bench_say, and on crates season, report and by_parts for what is said.
+ghost use Rattle.lent.specs.All.{PutsAll};
 ghost use Rattle.bench_say.specs.Pieces.{piecesTexts};
 ghost use Rattle.bench_seasons.specs.Told.{corridorIn, boundariesIn, seasonTexts, reportTexts};
+ghost use Rattle.bench_seasons.specs.Carried.{begunIn, atFirst, movedBy, toldBy};
 ghost use Rattle.bench_seasons.specs.Pieces.{names, heldPieces};
 ghost use mathlib.Core.Path.{_≡_};
 use bench_say::Pieces;
+use by_parts::SoFar;
 use event::Mac;
 use report::Reported;
 use season::Boundaries;
@@ -41,6 +43,34 @@ pub fn boundaries_in(s: &[u8]) -> Boundaries
         second: bench_words::wide32(bench_words::part(s, 15, 19)),
         third: bench_words::wide32(bench_words::part(s, 19, 23)),
     }
+}
+
+// A report of which no part has come, of the corridor and the boundaries that are handed in.
+fn begun_in(s: &[u8]) -> SoFar
+    ensures { λ r. ⌜ r ≡ begunIn (now (s .entry)) ⌝ }
+{
+    by_parts::begin(corridor_in(s), boundaries_in(s))
+}
+
+// What is carried at first: as begun with 23 bytes 00.
+pub fn fresh() -> SoFar
+    ensures { λ r. ⌜ r ≡ atFirst ⌝ }
+{
+    let zeros = [0u8; 23];
+    begun_in(&zeros)
+}
+
+// What is carried behind a call, by its number: D1 begins, D2 takes a part, D3 and every other move nothing.
+pub fn moved(n: usize, x: SoFar, s: &[u8]) -> SoFar
+    ensures { λ r. ⌜ r ≡ movedBy n x (now (s .entry)) ⌝ }
+{
+    if n == 0xD1 {
+        return begun_in(s);
+    }
+    if n == 0xD2 {
+        return by_parts::part(x, s);
+    }
+    x
 }
 
 // Pieces with the names of this family: the places of the names are in the pieces' kinds (crate bench_say).
@@ -95,4 +125,14 @@ pub fn say(out: &mut [u8], at: usize, r: Reported) -> usize
             season(out, h, 4, seasons[3])
         }
     }
+}
+
+// The answer of a call, by its number and what is carried behind it: of D3 the report of all parts so far, of every other that it went well.
+pub fn tell(out: &mut [u8], at: usize, n: usize, x: SoFar) -> usize
+    ensures { λ r. ⌜ PutsAll (toldBy n x) (now (out .entry)) at r (now (out .exit)) ⌝ }
+{
+    if n == 0xD3 {
+        return say(out, at, by_parts::end(x));
+    }
+    lent::byte(out, at, b'0')
 }

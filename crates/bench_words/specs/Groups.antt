@@ -6,22 +6,13 @@ use mathlib.Core.List.{List, [], _∷_, _++_}
 use lib.ListN.{length, getD, take, drop}
 use lib.Dec.{eqb, ltb, leb}
 use Rattle.refusal.specs.Test.{pick}
+use Rattle.text.specs.Text.{digitOf}
 use Rattle.bench_words.specs.Words.{wordsAt}
 use Rattle.bench_words.specs.declared.Word.{Word}
 use Rattle.bench_words.specs.declared.Word.the-variants.{Nothing, Slash, Byte, Other}
 use Rattle.bench_words.specs.declared.Groups.{Groups}
 use Rattle.bench_words.specs.declared.Parsed.{Parsed}
 use Rattle.bench_words.specs.declared.Parsed.the-variants.{Groups as Parsed-groups, NotAByte}
-
--- what a hexadecimal digit says, 16 for another byte: `0` to `9` are 48 to 57, `A` to `F` 65 to 70, `a` to `f` 97 to 102
-abbrev pub digitOf : ℕ → ℕ
-digitOf c =
-    pick (ltb c 48) 16
-    (pick (leb c 57) (c - 48)
-    (pick (ltb c 65) 16
-    (pick (leb c 70) (c - 55)
-    (pick (ltb c 97) 16
-    (pick (leb c 102) (c - 87) 16)))))
 
 -- what a word says: one of no bytes nothing, `/` (47) a slash, two digits a byte, and another is other
 abbrev pub pairOf : ℕ → ℕ → Word

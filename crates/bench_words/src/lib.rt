@@ -1,11 +1,11 @@
 // The words of a bench line, and the groups of bytes that they say. docs/BENCH.md, "A line". It leans on
-// crate words, and on crate refusal for the words of a test.
+// crate words, on crate text for what a hexadecimal digit says, and on crate refusal for the words of a test.
 ghost use Prim.Native.Nat.{_+_, _*_, _≤_};
 ghost use mathlib.Core.Path.{_≡_};
 ghost use lib.ListN.{length, getD};
 ghost use denote.Ref.{ptr};
 ghost use Rattle.bench_words.specs.Words.{blanks, startOf, partOf, wideOf};
-ghost use Rattle.bench_words.specs.Groups.{digitOf, wordOf, Grows, Reads};
+ghost use Rattle.bench_words.specs.Groups.{wordOf, Grows, Reads};
 
 // The groups of a line. The bytes of all of them stand in one run: the first group ends at a, the second at b, the third at
 // c. What a fourth group and later ones hold is counted to c too. Four groups and more are counted as four.
@@ -109,31 +109,6 @@ pub fn wide64(s: &[u8]) -> u64
     eight(wide32(s), low)
 }
 
-// What a hexadecimal digit says, capital or not; 16 for another byte.
-fn digit(c: u8) -> u8
-    ensures { λ r. ⌜ r ≡ digitOf c ⌝ }
-{
-    if c < 48 {
-        return 16;
-    }
-    if c <= 57 {
-        return c - 48;
-    }
-    if c < 65 {
-        return 16;
-    }
-    if c <= 70 {
-        return c - 55;
-    }
-    if c < 97 {
-        return 16;
-    }
-    if c <= 102 {
-        return c - 87;
-    }
-    16
-}
-
 fn word_of(s: &[u8]) -> Word
     ensures { λ r. ⌜ r ≡ wordOf (now (s .entry)) ⌝ }
 {
@@ -150,8 +125,8 @@ fn word_of(s: &[u8]) -> Word
     if 2 < s.len() {
         return Word::Other;
     }
-    let h = digit(s[0]);
-    let l = digit(s[1]);
+    let h = text::digit_value(s[0]);
+    let l = text::digit_value(s[1]);
     if 15 < h {
         return Word::Other;
     }

@@ -1,8 +1,8 @@
--- What the contracts of crates capture, append, morning and report say of an answer, said of what is handed over.
+-- What the contracts of crates capture, append and morning say of an answer, said of what is handed over.
 use Prim.Native.Nat.{ℕ, _+_, _-_}
 use mathlib.Core.Path.{_≡_, refl, ap, _∙_}
-use mathlib.Core.List.{List, [], _∷_, map}
-use lib.ListN.{length, getD}
+use mathlib.Core.List.{List}
+use lib.ListN.{length}
 use native.Mathlib.Omega.{arith}
 use Rattle.refusal.specs.Answer.{Answer, refused, full}
 use Rattle.record.specs.Record.{Entry, recordSize, standing}
@@ -14,13 +14,8 @@ use Rattle.append.specs.Append.{emptied, Empties, verdictAt, AppendsAt, verdict
 use Rattle.morning.specs.declared.Ran.{Ran}
 use Rattle.morning.specs.declared.RanAt.{RanAt}
 use Rattle.morning.specs.Morning.{ran, Runs, ranAt, RunsAt}
-use Rattle.season.specs.declared.Season.{Season}
-use Rattle.season.specs.Season.{noEvents}
-use Rattle.report.specs.declared.Reported.{Reported}
-use Rattle.c_capture.specs.declared.WickSeason.{WickSeason}
-use Rattle.c_capture.specs.Captures.{wentNo, foundOut, appendedOut, runOut, runAtOut, EmptiesOut, AppendsAtOut, AppendsOut, RunsOut, RunsAtOut}
+use Rattle.c_capture.specs.Captures.{foundOut, appendedOut, runOut, runAtOut, EmptiesOut, AppendsAtOut, AppendsOut, RunsOut, RunsAtOut}
 use Rattle.c_capture.specs.Records.{recordOut, stoodOut}
-use Rattle.c_capture.specs.Seasons.{seasonOut, seasonsOut}
 
 pub empties-out : {b b′ : List ℕ} {v : ℕ} (r : Found) → Empties (emptied b v) b v r b′ → EmptiesOut b v (foundOut r) b′
 empties-out r w = record { says = ap foundOut (w .says); leaves = w .leaves }
@@ -50,19 +45,3 @@ stood-out p (full r) =
     let n : e - 6 - p ≡ length (r .datagram) = omega arith in
     let s : e - (e - 6 - p) ≡ p + 6 = omega arith in
     λ i. record { refusal = 0; seconds = r .seconds; «datagram_at» = s i; n = n i; next = e }
-
--- the four seasons, one by one
-four-out : (l : List Season) → length l ≡ 4
-    → seasonOut (getD l 0 noEvents) ∷ seasonOut (getD l 1 noEvents) ∷ seasonOut (getD l 2 noEvents) ∷ seasonOut (getD l 3 noEvents) ∷ [] ≡ map seasonOut l
-four-out [] e = absurd (omega arith)
-four-out (a ∷ []) e = absurd (omega arith)
-four-out (a ∷ b ∷ []) e = absurd (omega arith)
-four-out (a ∷ b ∷ c ∷ []) e = absurd (omega arith)
-four-out (a ∷ b ∷ c ∷ d ∷ []) e = refl
-four-out (a ∷ b ∷ c ∷ d ∷ x ∷ l) e = absurd (omega arith)
-
-pub seasons-out : (r : Reported) {k : ℕ} {a b c d : WickSeason} → length (r .seasons) ≡ 4 → k ≡ wentNo (r .went)
-    → a ≡ seasonOut (getD (r .seasons) 0 noEvents) → b ≡ seasonOut (getD (r .seasons) 1 noEvents)
-    → c ≡ seasonOut (getD (r .seasons) 2 noEvents) → d ≡ seasonOut (getD (r .seasons) 3 noEvents)
-    → record { refusal = k; seasons = a ∷ b ∷ c ∷ d ∷ [] } ≡ seasonsOut r
-seasons-out r n e f g h i = rw (e, f, g, h, i, four-out (r .seasons) n)

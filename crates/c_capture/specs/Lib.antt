@@ -2,7 +2,6 @@
 pub mod Times
 pub mod Captures
 pub mod Records
-pub mod Seasons
 -- what is claimed of it
 pub mod Part
 -- what only serves proofs

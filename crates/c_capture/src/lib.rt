@@ -1,27 +1,20 @@
 // Captures as programs in C have them: the structs that crate wickanchor takes and hands over, laid out as C does, and what turns the
-// answers of crates capture, append, morning and report into them, and marks, summaries, corridors and boundaries back. A refusal is its
-// number by documents 01 and 02, and 0 stands for none. Beside a time or a gap stands a flag: 0 where it is absent, and then it is handed
-// over as 0; every other flag that is handed in says that there is one. Each contract is an equation over what the answer says. Document 02,
-// W-207, W-208 and W-213.
+// answers of crates capture, append and morning into them, and marks and summaries back (crate c_seasons has reports). A refusal is its number
+// by documents 01 and 02, and 0 stands for none. Beside a time stands a flag: 0 where it is absent, and then it is handed over as 0; every other
+// flag that is handed in says that there is one. Each contract is an equation over what the answer says. Document 02, W-207 and W-208.
 ghost use Prim.Native.Nat.{_-_};
 ghost use mathlib.Core.Path.{_≡_};
 ghost use Rattle.capture.specs.Capture.{saidOpening, saidStep};
 ghost use Rattle.c_capture.specs.Times.{timeIn, timeIs, timeNo};
 ghost use Rattle.c_capture.specs.Captures.{summaryIn, summaryOut, markIn, markOut, wentNo, foundOut, appendedOut, runOut, runAtOut, openedOut, countedOut};
 ghost use Rattle.c_capture.specs.Records.{stoodOut};
-ghost use Rattle.c_capture.specs.Seasons.{corridorIn, boundariesIn, seasonOut, seasonsOut};
 use append::Appended;
-use c_datagrams::WickMac;
 use capture::Found;
 use capture::Mark;
 use capture::Next;
 use capture::Opening;
 use morning::Ran;
 use morning::RanAt;
-use report::Reported;
-use season::Boundaries;
-use season::Corridor;
-use season::Season;
 use summary::Counting;
 use summary::Seconds;
 use summary::Summary;
@@ -106,43 +99,8 @@ pub struct WickRecord {
     pub next: usize,
 }
 
-// Whose events are reported: one controller, one target and one instance.
-#[repr(C)]
-pub struct WickCorridor {
-    pub mac: WickMac,
-    pub target: u32,
-    pub instance: u8,
-}
-
-// Where the second, the third and the fourth season begin, in seconds.
-#[repr(C)]
-pub struct WickBoundaries {
-    pub first: u32,
-    pub second: u32,
-    pub third: u32,
-}
-
-// A season: how many events of the three types lie in it, the longest gap, the total of the gaps and their number.
-#[repr(C)]
-pub struct WickSeason {
-    pub occupied: u64,
-    pub presses: u64,
-    pub holds: u64,
-    pub has_longest: u8,
-    pub longest: u32,
-    pub total: u64,
-    pub gaps: u64,
-}
-
-// What a report gives: the four seasons.
-#[repr(C)]
-pub struct WickSeasons {
-    pub refusal: u8,
-    pub seasons: [WickSeason; tally::SEASONS],
-}
-
 // A time by its flag, and back.
-fn time_in(has: u8, seconds: u32) -> Seconds
+pub fn time_in(has: u8, seconds: u32) -> Seconds
     ensures { λ r. ⌜ r ≡ timeIn has seconds ⌝ }
 {
     if has == 0 {
@@ -152,7 +110,7 @@ fn time_in(has: u8, seconds: u32) -> Seconds
     }
 }
 
-fn time_is(s: Seconds) -> u8
+pub fn time_is(s: Seconds) -> u8
     ensures { λ r. ⌜ r ≡ timeIs s ⌝ }
 {
     match s {
@@ -161,7 +119,7 @@ fn time_is(s: Seconds) -> u8
     }
 }
 
-fn time_no(s: Seconds) -> u32
+pub fn time_no(s: Seconds) -> u32
     ensures { λ r. ⌜ r ≡ timeNo s ⌝ }
 {
     match s {
@@ -221,7 +179,7 @@ fn mark_out(m: Mark) -> WickMark
 }
 
 // The number of a refusal, 0 where a call went well.
-fn went_no(w: Went) -> u8
+pub fn went_no(w: Went) -> u8
     ensures { λ r. ⌜ r ≡ wentNo w ⌝ }
 {
     match w {
@@ -358,61 +316,5 @@ pub fn record_out(place: usize, r: Next) -> WickRecord
             n: 0,
             next: 0,
         },
-    }
-}
-
-// A corridor of crate season.
-pub fn corridor_in(w: WickCorridor) -> Corridor
-    ensures { λ r. ⌜ r ≡ corridorIn w ⌝ }
-{
-    let mac = w.mac;
-    Corridor {
-        mac: c_datagrams::mac_in(mac),
-        target: w.target,
-        instance: w.instance,
-    }
-}
-
-// Boundaries of crate season.
-pub fn boundaries_in(w: WickBoundaries) -> Boundaries
-    ensures { λ r. ⌜ r ≡ boundariesIn w ⌝ }
-{
-    Boundaries {
-        first: w.first,
-        second: w.second,
-        third: w.third,
-    }
-}
-
-// One season.
-fn season_out(s: Season) -> WickSeason
-    ensures { λ w. ⌜ w ≡ seasonOut s ⌝ }
-{
-    let longest = s.longest;
-    WickSeason {
-        occupied: s.occupied,
-        presses: s.presses,
-        holds: s.holds,
-        has_longest: time_is(longest),
-        longest: time_no(longest),
-        total: s.total,
-        gaps: s.gaps,
-    }
-}
-
-// What a report answers.
-pub fn seasons_out(r: Reported) -> WickSeasons
-    ensures { λ w. ⌜ w ≡ seasonsOut r ⌝ }
-{
-    let went = r.went;
-    let s = r.seasons;
-    WickSeasons {
-        refusal: went_no(went),
-        seasons: [
-            season_out(s[0]),
-            season_out(s[1]),
-            season_out(s[2]),
-            season_out(s[3]),
-        ],
     }
 }

@@ -1,4 +1,6 @@
 -- what the contracts cite
 pub mod Puts
+pub mod All
 -- what only serves proofs
 pub mod Over
+pub mod Behind

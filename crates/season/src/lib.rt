@@ -108,7 +108,7 @@ pub fn season_of(b: Boundaries, seconds: u32) -> usize
 }
 
 // A sum in 64 bits. One that is full stays so.
-fn plus(a: u64, b: u64) -> u64
+pub fn plus(a: u64, b: u64) -> u64
     ensures { λ r. ⌜ r ≡ plus a b ⌝ }
 {
     if MOST - a < b { MOST } else { a + b }
@@ -122,7 +122,7 @@ fn count_if(test: bool, n: u64) -> u64
 }
 
 // The longer of two gaps, each of which may be absent.
-fn longer(longest: Seconds, gap: Seconds) -> Seconds
+pub fn longer(longest: Seconds, gap: Seconds) -> Seconds
     ensures { λ r. ⌜ r ≡ longer longest gap ⌝ }
 {
     let Seconds::At(g) = gap else {

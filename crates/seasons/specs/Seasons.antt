@@ -321,12 +321,6 @@ module _ (c : Corridor) (b : Boundaries) where
   onto-longest [] = refl
   onto-longest (g ∷ gs) = onto-longer g gs
 
--- THE TALLY GOES ON: of records behind others it is theirs, taken from the tally of those
-pub tallied-append : (c : Corridor) (b : Boundaries) (x : Tally) (rs qs : List Entry) → tallied c b x (rs ++ qs) ≡ tallied c b (tallied c b x rs) qs
-unfolding tallied
-tallied-append c b x [] qs = refl
-tallied-append c b x (r ∷ rs) qs = tallied-append c b (with c b x r) rs qs
-
 pub four-seasons : (c : Corridor) (b : Boundaries) (x : Tally) (rs : List Entry) → Four x → Four (tallied c b x rs)
 unfolding tallied
 four-seasons c b x [] h = h

@@ -1,10 +1,11 @@
-// Text in a lent buffer, from a place on: a byte as two hexadecimal digits, a number in decimal. Each function answers the place
+// Text in a lent buffer, from a place on: a byte as two hexadecimal digits, a number in decimal. Each function that puts one answers the place
 // behind what it wrote; where there is no room for the whole of it, it writes nothing and answers the place that it was given
-// (crate lent, whose contract it has). It is what a program's output is made of: document 01, "A small program".
+// (crate lent, whose contract it has). It is what a program's output is made of: document 01, "A small program". Beside it what a
+// hexadecimal digit says, for what is read.
 ghost use Prim.Native.Nat.{_/_, _%_, _<_};
 ghost use mathlib.Core.Path.{_≡_};
 ghost use lib.ListN.{length};
-ghost use Rattle.text.specs.Text.{digit as digitOf, hexOf, decimalOf};
+ghost use Rattle.text.specs.Text.{digit as digitOf, digitOf as digitValue, hexOf, decimalOf};
 ghost use Rattle.lent.specs.Puts.{Puts};
 
 // A digit, `0` to `9`, then `A` to `F`.
@@ -29,6 +30,31 @@ pub fn low_digit(b: u8) -> u8
     digit(b % 16)
 }
 
+// What a hexadecimal digit says, capital or not; 16 for another byte.
+pub fn digit_value(c: u8) -> u8
+    ensures { λ r. ⌜ r ≡ digitValue c ⌝ }
+{
+    if c < 48 {
+        return 16;
+    }
+    if c <= 57 {
+        return c - 48;
+    }
+    if c < 65 {
+        return 16;
+    }
+    if c <= 70 {
+        return c - 55;
+    }
+    if c < 97 {
+        return 16;
+    }
+    if c <= 102 {
+        return c - 87;
+    }
+    16
+}
+
 // Puts a byte as two hexadecimal digits, in capitals.
 pub fn hex(out: &mut [u8], at: usize, b: u8) -> usize
     ensures { λ r. ⌜ Puts (hexOf b) (now (out .entry)) at r (now (out .exit)) ⌝ }
@@ -47,7 +73,7 @@ pub fn hex(out: &mut [u8], at: usize, b: u8) -> usize
 }
 
 // How many decimal digits a number has.
-fn places(n: u64) -> usize
+pub fn places(n: u64) -> usize
     ensures { λ r. ⌜ r ≡ length (decimalOf n) ⌝ }
 {
     let mut k: usize = 1;

@@ -1,25 +1,14 @@
 -- What a read's answer is, in the machine's two tests of it: whether it is negative, and its number.
 use Prim.Native.Nat.{ℕ, zero, suc, _+_, min}
 use mathlib.Core.Path.{_≡_, refl}
-use native.Mathlib.Nat.{lt-of-le-of-lt}
 use native.Mathlib.Omega.{arith}
 use lib.IntN.{ℤ, pos, negsuc, natAbs}
-use lib.Dec.{T, lit<}
+use lib.Dec.{T}
 use borrow.Author.Tests.{ltb-true}
-use Rattle.refusal.specs.Test.{clash}
-use lib.Signed.{nonNeg, ltZ, natAbs-le}
-use mathlib.Core.Bool.{true, false}
-use mir.Syntax.{w64}
-use mir.Val.{Fits, SFits}
+use lib.Signed.{nonNeg, ltZ}
+use mathlib.Core.Bool.{true}
 use Rattle.turns.specs.declared.Turn.{Turn}
 use Rattle.turns.specs.Turn.{failed, goes, readAfter}
-
-pub answer-fits : (z : ℤ) → SFits w64 z → Fits w64 (natAbs z)
-answer-fits z f = record { fits = lt-of-le-of-lt (natAbs-le z (f .sfits)) (lit< tt) }
-
-pub not-below : (z : ℤ) → ltZ z (pos 0) ≡ false → T (nonNeg z)
-not-below (pos n) h = tt
-not-below (negsuc n) h = clash (cc)
 
 module _ (t : Turn) (size : ℕ) where
   pub read-failed : (z : ℤ) → ltZ z (pos 0) ≡ true → failed ≡ readAfter t z size

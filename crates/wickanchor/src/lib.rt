@@ -1,8 +1,8 @@
 // The codec for programs in C and Rust: `rt staticlib wickanchor` makes a static library of the functions below, for x86-64. A run of
 // bytes is a pointer and then a length; a result is a struct by value, laid out as C does. A refusal is its number by documents 01 and 02,
 // and 0 stands for none; every other field of a refused call is 0, but for a book, a mark, bytes in use and a summary that were handed in.
-// include/wickanchor.h declares them for C. Each function hands on what the crate of its subject answers, as crates c_datagrams, c_values
-// and c_capture put it, and its contract cites that crate's definition.
+// include/wickanchor.h declares them for C. Each function hands on what the crate of its subject answers, as crates c_datagrams, c_values,
+// c_capture and c_seasons put it, and its contract cites that crate's definition.
 ghost use mathlib.Core.Path.{_≡_};
 ghost use mathlib.Core.Bool.{not};
 ghost use mathlib.Core.List.{[]};
@@ -24,6 +24,7 @@ ghost use Rattle.filters.specs.Filters.{filtersOf, entryOf};
 ghost use Rattle.summary.specs.Summary.{countedIn, counting};
 ghost use Rattle.capture.specs.Capture.{opened, counted, prefixed, found, nothingKept, entryAt};
 ghost use Rattle.report.specs.Report.{reported, reporting};
+ghost use Rattle.by_parts.specs.Parts.{begun, parted, ended};
 ghost use Rattle.book.specs.Book.{freshBook};
 ghost use Rattle.line.specs.Rule.{itemAt};
 ghost use Rattle.reader.specs.Reader.{hold};
@@ -37,18 +38,16 @@ ghost use Rattle.c_values.specs.Books.{bookIn, bookOut, askedOut, repliedOut};
 ghost use Rattle.c_values.specs.Lines.{lineBy, readerIn, readerOut, fedOut, closedOut, positionOut};
 ghost use Rattle.c_capture.specs.Captures.{summaryIn, markIn, foundOut, openedOut, countedOut, EmptiesOut, AppendsAtOut, AppendsOut, RunsOut, RunsAtOut};
 ghost use Rattle.c_capture.specs.Records.{recordOut};
-ghost use Rattle.c_capture.specs.Seasons.{corridorIn, boundariesIn, seasonsOut};
+ghost use Rattle.c_seasons.specs.Seasons.{corridorIn, boundariesIn, seasonsOut};
+ghost use Rattle.c_seasons.specs.States.{stateIn, stateOut};
 use c_capture::WickAppended;
-use c_capture::WickBoundaries;
 use c_capture::WickCapture;
-use c_capture::WickCorridor;
 use c_capture::WickCounted;
 use c_capture::WickMark;
 use c_capture::WickOpened;
 use c_capture::WickRan;
 use c_capture::WickRanAt;
 use c_capture::WickRecord;
-use c_capture::WickSeasons;
 use c_capture::WickSummary;
 use c_datagrams::WickAddress;
 use c_datagrams::WickAim;
@@ -58,6 +57,10 @@ use c_datagrams::WickMac;
 use c_datagrams::WickReply;
 use c_datagrams::WickRequest;
 use c_datagrams::WickWrote;
+use c_seasons::WickBoundaries;
+use c_seasons::WickCorridor;
+use c_seasons::WickSeasons;
+use c_seasons::WickSeasonsState;
 use c_values::WickBook;
 use c_values::WickBooked;
 use c_values::WickFilter;
@@ -566,10 +569,40 @@ pub extern "C" fn wick_capture_seasons(
 ) -> WickSeasons
     ensures { λ w. ⌜ w ≡ seasonsOut (reporting (reported (now (buf .entry)) used (corridorIn who) (boundariesIn boundaries))) ⌝ }
 {
-    c_capture::seasons_out(report::report(
+    c_seasons::seasons_out(report::report(
         buf,
         used,
-        c_capture::corridor_in(who),
-        c_capture::boundaries_in(boundaries),
+        c_seasons::corridor_in(who),
+        c_seasons::boundaries_in(boundaries),
     ))
+}
+
+// A report of a capture of which no part has come.
+#[no_mangle]
+pub extern "C" fn wick_seasons_begin(
+    who: WickCorridor,
+    boundaries: WickBoundaries,
+) -> WickSeasonsState
+    ensures { λ w. ⌜ w ≡ stateOut (begun (corridorIn who) (boundariesIn boundaries)) ⌝ }
+{
+    c_seasons::state_out(by_parts::begin(
+        c_seasons::corridor_in(who),
+        c_seasons::boundaries_in(boundaries),
+    ))
+}
+
+// Takes the next part of a capture.
+#[no_mangle]
+pub extern "C" fn wick_seasons_part(state: WickSeasonsState, part: &[u8]) -> WickSeasonsState
+    ensures { λ w. ⌜ w ≡ stateOut (parted (stateIn state) (now (part .entry))) ⌝ }
+{
+    c_seasons::state_out(by_parts::part(c_seasons::state_in(state), part))
+}
+
+// The four seasons, where no more parts come.
+#[no_mangle]
+pub extern "C" fn wick_seasons_end(state: WickSeasonsState) -> WickSeasons
+    ensures { λ w. ⌜ w ≡ seasonsOut (reporting (ended (stateIn state))) ⌝ }
+{
+    c_seasons::seasons_out(by_parts::end(c_seasons::state_in(state)))
 }

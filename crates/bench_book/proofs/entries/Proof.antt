@@ -2,7 +2,7 @@ use Prim.Native.Nat.{_+_, _-_, _≤_}
 use mathlib.Core.Path.{_≡_, refl}
 use lib.ListN.{length}
 use borrow.Author.Needs.{needs}
-use Rattle.bench_say.specs.Laws.{Rest, rest-whole, rest-less, rest-none}
+use Rattle.lent.specs.Behind.{Rest, rest-whole, rest-less, rest-none}
 use Rattle.bench_book.specs.Pages.{entriesTexts}
 use Rattle.bench_book.specs.Turns.{entries-turn, entries-done}
 use Rattle.bench_book.proofs.entries.Statement.{statement}

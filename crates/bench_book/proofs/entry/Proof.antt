@@ -1,6 +1,6 @@
 use borrow.Author.Tests.{eq-eqb, ne-eqb}
 use Rattle.words.specs.Words.{before, wordIn}
-use Rattle.bench_say.specs.Laws.{puts-append, puts-none}
+use Rattle.lent.specs.Behind.{puts-append, puts-none}
 use borrow.Author.Needs.{needs}
 use Rattle.bench_book.proofs.entry.Statement.{statement}
 use Rattle.bench_book.proofs.entry.Tie as tie

@@ -1,4 +1,4 @@
-use Rattle.bench_say.specs.Laws.{puts-same}
+use Rattle.lent.specs.Behind.{puts-same}
 use Rattle.bench_calls.specs.Faults.{fault-of}
 use borrow.Author.Needs.{needs}
 use Rattle.bench_calls.proofs.refused.Statement.{statement}

@@ -1,7 +1,7 @@
 use Prim.Native.Nat.{_+_, _-_, _≤_}
 use mathlib.Core.Path.{_≡_, refl}
 use lib.ListN.{length}
-use Rattle.bench_say.specs.Laws.{Rest, rest-whole, rest-less, rest-none}
+use Rattle.lent.specs.Behind.{Rest, rest-whole, rest-less, rest-none}
 use Rattle.bench_capture.specs.Told.{numbersTexts}
 use Rattle.bench_capture.specs.Pieces.{numbers-turn, numbers-done}
 use borrow.Author.Needs.{needs}

@@ -1,4 +1,4 @@
-use Rattle.bench_say.specs.Laws.{puts-append, puts-none, puts-same}
+use Rattle.lent.specs.Behind.{puts-append, puts-none, puts-same}
 use Rattle.bench_capture.specs.Pieces.{head-of, next-said, mark-of}
 use borrow.Author.Needs.{needs}
 use Rattle.bench_capture.proofs.say.Statement.{statement}

@@ -1,4 +1,4 @@
-use Rattle.bench_say.specs.Laws.{puts-append, puts-next, puts-same}
+use Rattle.lent.specs.Behind.{puts-append, puts-next, puts-same}
 use Rattle.bench_capture.specs.Pieces.{times-of}
 use borrow.Author.Needs.{needs}
 use Rattle.bench_capture.proofs.summary.Statement.{statement}

@@ -1,4 +1,4 @@
-use Rattle.bench_say.specs.Laws.{puts-append, puts-none, puts-same}
+use Rattle.lent.specs.Behind.{puts-append, puts-none, puts-same}
 use Rattle.bench_datagrams.specs.Pieces.{kind-of, instance-of}
 use borrow.Author.Needs.{needs}
 use Rattle.bench_datagrams.proofs.event.Statement.{statement}

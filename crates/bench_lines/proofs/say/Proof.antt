@@ -1,5 +1,5 @@
 use borrow.Author.Tests.{ne-eqb}
-use Rattle.bench_say.specs.Laws.{puts-append, puts-none}
+use Rattle.lent.specs.Behind.{puts-append, puts-none}
 use borrow.Author.Needs.{needs, length-unmapped}
 use Rattle.bench_lines.proofs.say.Statement.{statement}
 use Rattle.bench_lines.proofs.say.Tie as tie

@@ -1,4 +1,4 @@
-use Rattle.bench_say.specs.Laws.{puts-none}
+use Rattle.lent.specs.Behind.{puts-none}
 use borrow.Author.Needs.{needs}
 use Rattle.bench_requests.proofs.accepted.Statement.{statement}
 use Rattle.bench_requests.proofs.accepted.Tie as tie

@@ -1,4 +1,4 @@
-use Rattle.bench_say.specs.Laws.{puts-append, puts-same}
+use Rattle.lent.specs.Behind.{puts-append, puts-same}
 use Rattle.words.specs.Words.{before, wordIn}
 use Rattle.bench_requests.specs.Pieces.{meaning-of}
 use borrow.Author.Needs.{needs}

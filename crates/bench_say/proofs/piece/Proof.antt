@@ -1,6 +1,6 @@
 use borrow.Author.Tests.{ne-eqb}
 use Rattle.refusal.specs.Test.{tests}
-use Rattle.bench_say.specs.Laws.{puts-next, puts-none}
+use Rattle.lent.specs.Behind.{puts-next, puts-none}
 use borrow.Author.Needs.{needs}
 use Rattle.bench_say.proofs.piece.Statement.{statement}
 use Rattle.bench_say.proofs.piece.Tie as tie

@@ -1,4 +1,4 @@
-use Rattle.bench_say.specs.Laws.{puts-append}
+use Rattle.lent.specs.Behind.{puts-append}
 use borrow.Author.Needs.{needs}
 use Rattle.bench_say.proofs.put.Statement.{statement}
 use Rattle.bench_say.proofs.put.Tie as tie

@@ -5,7 +5,8 @@ use lib.ListN.{length, drop}
 use native.Mathlib.Omega.{arith}
 use borrow.Author.Needs.{needs}
 use Rattle.bench_say.specs.Said.{runOf}
-use Rattle.bench_say.specs.Laws.{puts-next, Rest, rest-whole, rest-less, rest-none, run-turn, run-done}
+use Rattle.lent.specs.Behind.{puts-next, Rest, rest-whole, rest-less, rest-none}
+use Rattle.bench_say.specs.Laws.{run-turn, run-done}
 use Rattle.bench_say.proofs.run.Statement.{statement}
 use Rattle.bench_say.proofs.run.Tie as tie
 

@@ -1,4 +1,4 @@
-use Rattle.bench_say.specs.Laws.{puts-append, puts-next, puts-none}
+use Rattle.lent.specs.Behind.{puts-append, puts-next, puts-none}
 use borrow.Author.Needs.{needs}
 use Rattle.bench_seasons.proofs.say.Statement.{statement}
 use Rattle.bench_seasons.proofs.say.Tie as tie

@@ -1,4 +1,4 @@
-use Rattle.bench_say.specs.Laws.{puts-append, puts-same}
+use Rattle.lent.specs.Behind.{puts-append, puts-same}
 use Rattle.bench_seasons.specs.Pieces.{counts-said, held-of, gaps-said}
 use borrow.Author.Needs.{needs}
 use Rattle.bench_seasons.proofs.season.Statement.{statement}

@@ -18,23 +18,23 @@ returns-3 c = search (tests, needs)
 returns-4 : tie.Need-returns-4
 returns-4 c = search (tests, needs)
 
-shared-slice-read-digit : tie.Need-shared-slice-read-digit
-shared-slice-read-digit c = search needs
+shared-slice-read-digit-value : tie.Need-shared-slice-read-digit-value
+shared-slice-read-digit-value c = search needs
 
-digit-requires : tie.Need-digit-requires
-digit-requires c κs = search needs
+digit-value-requires : tie.Need-digit-value-requires
+digit-value-requires c κs = search needs
 
-shared-slice-read-digit-2 : tie.Need-shared-slice-read-digit-2
-shared-slice-read-digit-2 c = search needs
+shared-slice-read-digit-value-2 : tie.Need-shared-slice-read-digit-value-2
+shared-slice-read-digit-value-2 c = search needs
 
-digit-requires-2 : tie.Need-digit-requires-2
-digit-requires-2 c κs = search needs
+digit-value-requires-2 : tie.Need-digit-value-requires-2
+digit-value-requires-2 c κs = search needs
 
 returns-5 : tie.Need-returns-5
-returns-5 c = search (← c .before .before .before .digit .ensures, ← c .before .digit2 .ensures, tests, needs)
+returns-5 c = search (← c .before .before .before .digit-value .ensures, ← c .before .digit-value2 .ensures, tests, needs)
 
 returns-6 : tie.Need-returns-6
-returns-6 c = search (← c .before .before .before .before .digit .ensures, ← c .before .before .digit2 .ensures, tests, needs)
+returns-6 c = search (← c .before .before .before .before .digit-value .ensures, ← c .before .before .digit-value2 .ensures, tests, needs)
 
 mul-t11 : tie.Need-mul-t11
 mul-t11 c = search needs
@@ -43,7 +43,7 @@ add-t13 : tie.Need-add-t13
 add-t13 c = search needs
 
 returns-7 : tie.Need-returns-7
-returns-7 c = search (← c .before .before .before .before .digit .ensures, ← c .before .before .digit2 .ensures, tests, needs)
+returns-7 c = search (← c .before .before .before .before .digit-value .ensures, ← c .before .before .digit-value2 .ensures, tests, needs)
 
 pub word-of-spec : {M : Type 1} → statement M
 word-of-spec =
@@ -54,10 +54,10 @@ word-of-spec =
     returns-2
     returns-3
     returns-4
-    shared-slice-read-digit
-    digit-requires
-    shared-slice-read-digit-2
-    digit-requires-2
+    shared-slice-read-digit-value
+    digit-value-requires
+    shared-slice-read-digit-value-2
+    digit-value-requires-2
     returns-5
     returns-6
     mul-t11

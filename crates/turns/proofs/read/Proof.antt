@@ -3,7 +3,8 @@ use mir.Syntax.{w64}
 use mir.Val.{toZ, ofZ}
 use mir.ValLaws.{toZ-ofZ}
 use borrow.Author.Needs.{needs}
-use Rattle.turns.specs.Read.{answer-fits, not-below, read-failed, read-none, read-some}
+use Rattle.refusal.specs.Signed.{answer-fits, not-below}
+use Rattle.turns.specs.Read.{read-failed, read-none, read-some}
 use Rattle.turns.proofs.read.Statement.{statement}
 use Rattle.turns.proofs.read.Tie as tie
 use Rattle.turns.proofs.read.Reads as reads

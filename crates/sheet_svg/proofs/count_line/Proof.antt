@@ -1,0 +1,46 @@
+use Rattle.lent.specs.Behind.{puts-append, puts-next, puts-none}
+use borrow.Author.Needs.{needs}
+use Rattle.sheet_svg.proofs.count_line.Statement.{statement}
+use Rattle.sheet_svg.proofs.count_line.Tie as tie
+
+height-requires : tie.Need-height-requires
+height-requires c κs = search needs
+
+bar-requires : tie.Need-bar-requires
+bar-requires c κs = search needs
+
+above-requires : tie.Need-above-requires
+above-requires c κs = search needs
+
+decimal-requires : tie.Need-decimal-requires
+decimal-requires c κs = search needs
+
+slice-aggregate-word : tie.Need-slice-aggregate-word
+slice-aggregate-word c = search needs
+
+word-requires : tie.Need-word-requires
+word-requires c κs = search needs
+
+same-length : tie.Need-same-length
+same-length c = search needs
+
+returns : tie.Need-returns
+returns c =
+    let e = c .before .before in
+    let d = e .before .before .before .before .before in
+    let b = d .before .before .before .before in
+    let a = b .before .before .before .before in
+    puts-append (rw (a .before .before .height .ensures) at (a .bar .ensures)) (puts-append (rw (a .before .before .height .ensures) at (b .above .ensures)) (puts-next (d .decimal .ensures) (puts-next (e .word .ensures) (puts-none _ _))))
+
+pub count-line-spec : {M : Type 1} → statement M
+count-line-spec =
+    tie.close
+    (tie.spec
+    height-requires
+    bar-requires
+    above-requires
+    decimal-requires
+    slice-aggregate-word
+    word-requires
+    same-length
+    returns)

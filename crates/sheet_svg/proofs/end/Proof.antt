@@ -1,0 +1,36 @@
+use Rattle.lent.specs.Behind.{puts-next, puts-none}
+use borrow.Author.Needs.{needs}
+use Rattle.sheet_svg.proofs.end.Statement.{statement}
+use Rattle.sheet_svg.proofs.end.Tie as tie
+
+slice-aggregate-word : tie.Need-slice-aggregate-word
+slice-aggregate-word c = search needs
+
+word-requires : tie.Need-word-requires
+word-requires c κs = search needs
+
+slice-aggregate-word-2 : tie.Need-slice-aggregate-word-2
+slice-aggregate-word-2 c = search needs
+
+word-requires-2 : tie.Need-word-requires-2
+word-requires-2 c κs = search needs
+
+same-length : tie.Need-same-length
+same-length c = search needs
+
+returns : tie.Need-returns
+returns c =
+    let b = c .before .before in
+    let a = b .before .before .before .before .before in
+    puts-next (a .word .ensures) (puts-next (b .word2 .ensures) (puts-none _ _))
+
+pub end-spec : {M : Type 1} → statement M
+end-spec =
+    tie.close
+    (tie.spec
+    slice-aggregate-word
+    word-requires
+    slice-aggregate-word-2
+    word-requires-2
+    same-length
+    returns)

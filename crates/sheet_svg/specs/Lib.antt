@@ -1,0 +1,4 @@
+-- what the contracts cite
+pub mod Picture
+-- what only serves proofs
+pub mod Ways

@@ -1,0 +1,5 @@
+-- what the contracts cite
+pub mod Layout
+pub mod Page
+-- what only serves proofs
+pub mod Ways
