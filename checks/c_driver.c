@@ -97,6 +97,32 @@ static void meaning(struct wick_meaning m) {
     }
 }
 
+/* Whether the channels of types other than this are 0 */
+static void other_channels(struct wick_colour c, uint8_t kind) {
+    if (kind != WICK_COLOUR_XY && (c.x | c.y)) printf(" NOT 0");
+    if (kind != WICK_COLOUR_TC && c.tc) printf(" NOT 0");
+    if (kind != WICK_COLOUR_RGBWAF && (c.red | c.green | c.blue | c.white | c.amber | c.free)) printf(" NOT 0");
+}
+
+/* Of a request that is no colour request all is 0 */
+static void colourless(struct wick_colour c) {
+    if (c.kind | c.target | c.aim.kind | c.aim.number | c.level) printf(" NOT 0");
+    other_channels(c, WICK_COLOUR_NONE);
+}
+
+static void colour(struct wick_colour c) {
+    number("target", c.target);
+    aim(c.aim);
+    number("level", c.level);
+    other_channels(c, c.kind);
+    switch (c.kind) {
+    case WICK_COLOUR_XY: printf(" xy %u %u", c.x, c.y); break;
+    case WICK_COLOUR_TC: number("tc", c.tc); break;
+    case WICK_COLOUR_RGBWAF: printf(" rgbwaf %u %u %u %u %u %u", c.red, c.green, c.blue, c.white, c.amber, c.free); break;
+    default: printf(" NO COLOUR");
+    }
+}
+
 /* Whether a struct is 0 behind its first byte, the refusal. Only for structs without gaps. */
 static void cleared(const void *r, size_t size) {
     for (size_t i = 1; i < size; i++)
@@ -109,10 +135,17 @@ static void request(void) {
     printf("%u", r.refusal);
     if (r.refusal) {
         if (r.sequence | r.command | r.a | r.b | r.c | r.d | r.port | r.meaning.kind | r.address.bytes[0]) printf(" NOT 0");
+        colourless(r.colour);
         return;
     }
     number("sequence", r.sequence);
     printf(" command %02X", r.command);
+    if (r.command == WICK_DALI_COLOUR) {
+        if (r.a | r.b | r.c | r.d | r.port | r.meaning.kind | r.address.bytes[0]) printf(" NOT 0");
+        colour(r.colour);
+        return;
+    }
+    colourless(r.colour);
     if (r.command == WICK_SET_TPI_EVENT_UNICAST_ADDRESS) {
         number("port", r.port);
         printf(" address %u %u %u %u", r.address.bytes[0], r.address.bytes[1], r.address.bytes[2], r.address.bytes[3]);
@@ -133,6 +166,24 @@ static void write_unicast(void) {
     struct wick_address a = {{b[3], b[4], b[5], b[6]}};
     uint8_t *out = lent(g[1]);
     wrote(wick_write_unicast(b[0], (uint16_t)high_first(b + 1, 2), a, out, g[1].n), g[1], out);
+}
+
+static void write_colour_xy(void) {
+    const uint8_t *b = g[0].bytes;
+    uint8_t *out = lent(g[1]);
+    wrote(wick_write_colour_xy(b[0], b[1], b[2], (uint16_t)high_first(b + 3, 2), (uint16_t)high_first(b + 5, 2), out, g[1].n), g[1], out);
+}
+
+static void write_colour_tc(void) {
+    const uint8_t *b = g[0].bytes;
+    uint8_t *out = lent(g[1]);
+    wrote(wick_write_colour_tc(b[0], b[1], b[2], (uint16_t)high_first(b + 3, 2), out, g[1].n), g[1], out);
+}
+
+static void write_colour_rgbwaf(void) {
+    const uint8_t *b = g[0].bytes;
+    uint8_t *out = lent(g[1]);
+    wrote(wick_write_colour_rgbwaf(b[0], b[1], b[2], b[3], b[4], b[5], b[6], b[7], b[8], out, g[1].n), g[1], out);
 }
 
 static void relay(struct wick_wrote (*f)(const uint8_t *, uint64_t, uint8_t *, uint64_t)) {
@@ -721,7 +772,8 @@ static const struct {
     const char *name;
     void (*call)(void);
 } calls[] = {
-    CALL(request), CALL(write_basic), CALL(write_unicast), CALL(relay_request), CALL(relay_reply), CALL(relay_event), CALL(relay_event_two),
+    CALL(request), CALL(write_basic), CALL(write_unicast), CALL(write_colour_xy), CALL(write_colour_tc), CALL(write_colour_rgbwaf),
+    CALL(relay_request), CALL(relay_reply), CALL(relay_event), CALL(relay_event_two),
     CALL(reply), CALL(reply_data), CALL(error_code), CALL(write_reply), CALL(event), CALL(event_data), CALL(write_event),
     CALL(event_two), CALL(event_two_data), CALL(write_event_two),
     CALL(sum), CALL(known), CALL(error_name), CALL(event_type), CALL(group_target), CALL(device), CALL(device_number), CALL(name),

@@ -1,6 +1,6 @@
-// The header in C++: it compiles, its functions link, the scenes that it names are the last that requests take, the sizes and targets
-// that it names for each layout of events are the ends of theirs, and captures, runs of datagrams and seasons, whole and part by part, are
-// as it says.
+// The header in C++: it compiles, its functions link, the scenes that it names are the last that requests take, colour requests have the
+// sizes and fields that it names and none is longer, the sizes and targets that it names for each layout of events are the ends of theirs, and
+// captures, runs of datagrams and seasons, whole and part by part, are as it says.
 #include "wickanchor.h"
 
 // What writing a request with these arguments is refused with.
@@ -14,6 +14,40 @@ static bool scenes() {
         && refused(WICK_DALI_SCENE, 0xFF, 0, WICK_DALI_SCENE_MOST + 1) == WICK_BAD_ARGUMENT
         && refused(WICK_QUERY_SCENE_LABEL_FOR_GROUP, 0, WICK_LABELLED_SCENE_MOST, 0) == WICK_OK
         && refused(WICK_QUERY_SCENE_LABEL_FOR_GROUP, 0, WICK_LABELLED_SCENE_MOST + 1, 0) == WICK_BAD_ARGUMENT;
+}
+
+// Whether a request line gives a frame of all bytes at its last one, having held all before it.
+static bool whole(const uint8_t *frame, uint64_t n) {
+    const struct wick_given held = wick_feed(WICK_REQUEST_LINE, wick_reader(), frame, n - 1);
+    const struct wick_given last = wick_feed(WICK_REQUEST_LINE, held.reader, frame + n - 1, 1);
+    return !held.has_item && held.reader.len == n - 1 && held.reader.len <= WICK_REQUEST_LINE_HELD && last.has_item && last.item == 0
+        && last.count == n;
+}
+
+// Each type of colour, of group 1 and of both broadcasts: as long as the header says and not longer than its most, with one byte less no
+// room, and its fields come back. The longest leaves a line holding the most. 80 is no lighting target, an unlisted type is refused, and
+// the writer of basic requests does not take the command.
+static bool colours() {
+    uint8_t xy[WICK_COLOUR_XY_BYTES], tc[WICK_COLOUR_TC_BYTES], six[WICK_COLOUR_RGBWAF_BYTES], other[WICK_REQUEST_MOST] = {};
+    const bool sizes = wick_write_colour_xy(7, 65, 254, 0x1234, 0x5678, xy, sizeof xy).count == sizeof xy
+        && wick_write_colour_tc(7, 127, 254, 370, tc, sizeof tc).count == sizeof tc
+        && wick_write_colour_rgbwaf(7, 255, 254, 1, 2, 3, 4, 5, 6, six, sizeof six).count == sizeof six
+        && sizeof six == WICK_REQUEST_MOST && sizeof six - 1 == WICK_REQUEST_LINE_HELD;
+    const bool rooms = wick_write_colour_xy(7, 65, 254, 0, 0, other, sizeof xy - 1).refusal == WICK_NO_ROOM
+        && wick_write_colour_tc(7, 127, 254, 0, other, sizeof tc - 1).refusal == WICK_NO_ROOM
+        && wick_write_colour_rgbwaf(7, 255, 254, 0, 0, 0, 0, 0, 0, other, sizeof six - 1).refusal == WICK_NO_ROOM
+        && wick_write_colour_tc(7, 80, 254, 0, other, sizeof other).refusal == WICK_BAD_ARGUMENT && !other[0];
+    const struct wick_colour x = wick_request(xy, sizeof xy).colour, t = wick_request(tc, sizeof tc).colour;
+    const struct wick_request r = wick_request(six, sizeof six);
+    const struct wick_colour f = r.colour;
+    tc[5] = WICK_COLOUR_NONE;
+    return sizes && rooms && whole(xy, sizeof xy) && whole(six, sizeof six)
+        && x.kind == WICK_COLOUR_XY && x.target == 65 && x.aim.kind == WICK_AIM_GROUP && x.aim.number == 1 && x.x == 0x1234 && x.y == 0x5678
+        && t.kind == WICK_COLOUR_TC && t.target == 127 && t.aim.kind == WICK_AIM_BROADCAST && t.level == 254 && t.tc == 370 && !t.x && !t.free
+        && r.refusal == WICK_OK && r.sequence == 7 && r.command == WICK_DALI_COLOUR && r.meaning.kind == WICK_MEANS_NONE
+        && f.kind == WICK_COLOUR_RGBWAF && f.target == 255 && f.aim.kind == WICK_AIM_BROADCAST && f.red == 1 && f.green == 2 && f.blue == 3
+        && f.white == 4 && f.amber == 5 && f.free == 6 && !f.tc
+        && wick_request(tc, sizeof tc).refusal == WICK_BAD_LENGTH_BYTE && refused(WICK_DALI_COLOUR, 0, 0, 0) == WICK_UNKNOWN_COMMAND;
 }
 
 // An event without data is as long as the least that the header names, one of all its data as long as the most and with its data where
@@ -162,5 +196,6 @@ int main() {
     const struct wick_reply r = wick_reply(frame, sizeof frame);
     const struct wick_wrote w = wick_write_reply(WICK_REPLY_ANSWER, r.sequence, frame + r.data_at, r.n, out, sizeof out);
     const struct wick_given v = wick_feed(WICK_REPLY_LINE, wick_reader(), out, w.count);
-    return r.refusal == WICK_OK && w.count == sizeof frame && v.has_item && v.item == 0 && v.count == w.count && scenes() && layouts() ? 0 : 1;
+    return r.refusal == WICK_OK && w.count == sizeof frame && v.has_item && v.item == 0 && v.count == w.count && scenes() && colours() && layouts()
+        ? 0 : 1;
 }

@@ -15,6 +15,12 @@ static const char *name(uint8_t kind, uint8_t number) {
     return (const char *)text;
 }
 
+static void colour(struct wick_colour c) {
+    if (c.kind == WICK_COLOUR_XY) printf(" x %u y %u", c.x, c.y);
+    else if (c.kind == WICK_COLOUR_TC) printf(" temperature %u", c.tc);
+    else printf(" red %u green %u blue %u white %u amber %u free %u", c.red, c.green, c.blue, c.white, c.amber, c.free);
+}
+
 int main(int argc, char **argv) {
     uint8_t d[256];
     uint64_t n = 0;
@@ -24,7 +30,10 @@ int main(int argc, char **argv) {
     struct wick_request q = wick_request(d, n);
     struct wick_reply r = wick_reply(d, n);
     struct wick_event v = two ? wick_event_two(d, n) : wick_event(d, n);
-    if (!q.refusal) {
+    if (!q.refusal && q.command == WICK_DALI_COLOUR) {
+        printf("request %u: %s of target %u, level %u,", q.sequence, name(WICK_KIND_COMMAND, q.command), q.colour.target, q.colour.level);
+        colour(q.colour);
+    } else if (!q.refusal) {
         printf("request %u: %s, arguments %u %u %u %u", q.sequence, name(WICK_KIND_COMMAND, q.command), q.a, q.b, q.c, q.d);
     } else if (!r.refusal) {
         struct wick_code e = wick_error_code(d, n);

@@ -20,8 +20,10 @@
    3: command A1 takes scenes 13 to 15 (W-201). 4: events whose target has two bytes (W-206): wick_event_two, wick_write_event_two,
    wick_relay_event_two. 5: captures (W-207): the functions whose names begin with wick_capture, and refusals 14 to 16, which have names.
    6: runs of datagrams (W-208): wick_capture_run, wick_capture_run_at. 7: seasons of one corridor (W-213): wick_capture_seasons, and refusal
-   20, which has a name. 8: the same part by part: wick_seasons_begin, wick_seasons_part, wick_seasons_end. */
-#define WICKANCHOR_VERSION 8
+   20, which has a name. 8: the same part by part: wick_seasons_begin, wick_seasons_part, wick_seasons_end. 9: colour requests (W-202): the
+   functions whose names begin with wick_write_colour, command 0E, which has a name, and the colour in struct wick_request, which is longer; a
+   reader of a request line holds up to 12 bytes. */
+#define WICKANCHOR_VERSION 9
 
 #ifdef __cplusplus
 extern "C" {
@@ -33,7 +35,10 @@ extern "C" {
 /* Sizes in bytes: of frames, of data, and where data begin in a frame */
 #define WICK_BASIC_BYTES 8
 #define WICK_UNICAST_BYTES 11
-#define WICK_REQUEST_MOST 11
+#define WICK_COLOUR_XY_BYTES 11
+#define WICK_COLOUR_TC_BYTES 9
+#define WICK_COLOUR_RGBWAF_BYTES 13
+#define WICK_REQUEST_MOST 13
 #define WICK_REPLY_LEAST 4
 #define WICK_REPLY_MOST 68
 #define WICK_REPLY_DATA_MOST 64
@@ -67,18 +72,19 @@ extern "C" {
 #define WICK_LABELLED_SCENE_MOST 12
 
 /* The most bytes that a reader of a line holds */
-#define WICK_REQUEST_LINE_HELD 10
+#define WICK_REQUEST_LINE_HELD 12
 #define WICK_REPLY_LINE_HELD 67
 
 enum wick_refusal {
     WICK_OK = 0,
     WICK_TOO_SHORT = 1,             /* shorter than the least of its family */
     WICK_BAD_LEAD = 2,              /* the first bytes are not those of its family; the type given to a writer of replies */
-    WICK_UNKNOWN_COMMAND = 3,       /* also 40 given to the writer of basic requests */
-    WICK_BAD_LENGTH_BYTE = 4,       /* also more data than a frame carries, in writing */
+    WICK_UNKNOWN_COMMAND = 3,       /* also 40 and 0E given to the writer of basic requests */
+    WICK_BAD_LENGTH_BYTE = 4,       /* also an unlisted colour type; more data than a frame carries, in writing */
     WICK_BAD_LENGTH = 5,            /* the datagram's length is not the one that its frame states */
     WICK_BAD_SUM = 6,
-    WICK_BAD_ARGUMENT = 7,          /* outside the table; an instance event without data; an event target too large */
+    WICK_BAD_ARGUMENT = 7,          /* outside the table; no lighting target, for a colour; an instance event without data; an event target too
+                                       large */
     WICK_NO_ROOM = 8,               /* the buffer is shorter than the frame, or than the capture with the record; a count of 32 bits is full */
     WICK_NO_NUMBER_FREE = 9,        /* all 256 sequence numbers are unanswered */
     WICK_NOT_AWAITED = 10,          /* a reply's sequence number */
@@ -92,7 +98,7 @@ enum wick_refusal {
     WICK_NOT_RISING = 20            /* a boundary of seasons that is not above the one before */
 };
 
-/* The 32 commands, by the maker's names */
+/* The 33 commands, by the maker's names */
 enum wick_command {
     WICK_QUERY_GROUP_LABEL = 0x01,
     WICK_ENABLE_TPI_EVENT_EMIT = 0x08,
@@ -100,6 +106,7 @@ enum wick_command {
     WICK_QUERY_SCENE_NUMBERS = 0x0A,
     WICK_QUERY_PROFILE_NUMBERS = 0x0B,
     WICK_QUERY_OCCUPANCY_INSTANCE_TIMERS = 0x0C,
+    WICK_DALI_COLOUR = 0x0E,
     WICK_QUERY_SCENE_NUMBERS_FOR_GROUP = 0x1A,
     WICK_QUERY_SCENE_LABEL_FOR_GROUP = 0x1B,
     WICK_QUERY_CONTROLLER_VERSION_NUMBER = 0x1C,
@@ -182,7 +189,7 @@ struct wick_aim {
 
 /* What the arguments of a basic request mean; beside each kind the fields that it has. Every other field is 0. */
 enum wick_meaning_kind {
-    WICK_MEANS_NONE = 0,            /* refused, or command 40 */
+    WICK_MEANS_NONE = 0,            /* refused, or command 40 or 0E */
     WICK_MEANS_NOTHING = 1,         /* no argument */
     WICK_MEANS_GROUP = 2,           /* first: the group's number */
     WICK_MEANS_EMIT = 3,            /* first: the mode's bits */
@@ -206,6 +213,23 @@ struct wick_meaning {
     uint16_t wide;
 };
 
+/* What a colour request says; beside each type of colour the channels that it has. Those of the other types are 0. */
+enum wick_colour_type {
+    WICK_COLOUR_NONE = 0,           /* refused, or another command: every field is 0 */
+    WICK_COLOUR_XY = 0x10,          /* x, y */
+    WICK_COLOUR_TC = 0x20,          /* tc: a colour temperature */
+    WICK_COLOUR_RGBWAF = 0x80       /* red, green, blue, white, amber, free */
+};
+
+struct wick_colour {
+    uint8_t kind;                   /* one of enum wick_colour_type */
+    uint8_t target;                 /* the address byte as it stands: 127 and 255 are both broadcast */
+    struct wick_aim aim;            /* what it lights */
+    uint8_t level;
+    uint8_t red, green, blue, white, amber, free;
+    uint16_t x, y, tc;
+};
+
 /* An IPv4 address and a MAC address, in the order in which they are written */
 struct wick_address {
     uint8_t bytes[4];
@@ -227,10 +251,11 @@ struct wick_wrote {
 
 struct wick_request {
     uint8_t refusal, sequence, command;
-    uint8_t a, b, c, d;             /* the arguments; 0 for command 40 */
+    uint8_t a, b, c, d;             /* the arguments; 0 for commands 40 and 0E */
     struct wick_address address;    /* of command 40, else 0 */
     uint16_t port;                  /* of command 40, else 0 */
     struct wick_meaning meaning;    /* of the arguments */
+    struct wick_colour colour;      /* of command 0E, else 0 */
 };
 
 struct wick_reply {
@@ -297,8 +322,8 @@ struct wick_reader {
     uint64_t len;
 };
 
-/* Numbers of items: 0 a frame; 7 a whole frame with an argument outside the table; else one byte that begins none: 1 cut off by the line's
-   end, 2 no lead, 3 unknown command, 4 bad length byte, 6 bad sum. */
+/* Numbers of items: 0 a frame; 7 a whole frame with an argument outside the table, or a colour for no lighting target; else one byte that
+   begins none: 1 cut off by the line's end, 2 no lead, 3 unknown command, 4 bad length byte or unlisted colour type, 6 bad sum. */
 struct wick_given {
     struct wick_reader reader;      /* afterwards */
     uint64_t taken;                 /* bytes of the part */
@@ -442,11 +467,12 @@ struct wick_seasons_state {
 
 WICK_SIZE(struct wick_aim, 2);
 WICK_SIZE(struct wick_meaning, 8);
+WICK_SIZE(struct wick_colour, 18);
 WICK_SIZE(struct wick_address, 4);
 WICK_SIZE(struct wick_mac, 6);
 WICK_SIZE(struct wick_number, 16);
 WICK_SIZE(struct wick_wrote, 16);
-WICK_SIZE(struct wick_request, 22);
+WICK_SIZE(struct wick_request, 40);
 WICK_SIZE(struct wick_reply, 24);
 WICK_SIZE(struct wick_code, 4);
 WICK_SIZE(struct wick_event, 32);
@@ -480,6 +506,13 @@ struct wick_wrote wick_write_basic(uint8_t sequence, uint8_t command, uint8_t a,
 
 /* Writes request 40. Refusal 8. */
 struct wick_wrote wick_write_unicast(uint8_t sequence, uint16_t port, struct wick_address address, uint8_t *out, uint64_t room);
+
+/* Writes a colour request, by the type of its colour. `target` is a lighting target: 0 to 63 a gear, 64 to 79 a group (wick_group_target), 127
+   or 255 broadcast. Level and colour are any. Refusals 7 (every other target), 8. */
+struct wick_wrote wick_write_colour_xy(uint8_t sequence, uint8_t target, uint8_t level, uint16_t x, uint16_t y, uint8_t *out, uint64_t room);
+struct wick_wrote wick_write_colour_tc(uint8_t sequence, uint8_t target, uint8_t level, uint16_t tc, uint8_t *out, uint64_t room);
+struct wick_wrote wick_write_colour_rgbwaf(uint8_t sequence, uint8_t target, uint8_t level, uint8_t red, uint8_t green, uint8_t blue,
+                                           uint8_t white, uint8_t amber, uint8_t free, uint8_t *out, uint64_t room);
 
 /* Reads a datagram of its family and writes it again, byte for byte. Refusals of the reader, and 8. */
 struct wick_wrote wick_relay_request(const uint8_t *bytes, uint64_t length, uint8_t *out, uint64_t room);
@@ -519,7 +552,7 @@ struct wick_wrote wick_name(uint8_t kind, uint8_t number, uint8_t *out, uint64_t
 /* The exclusive-or of some bytes: 0 for a whole frame. */
 uint8_t wick_sum(const uint8_t *bytes, uint64_t length);
 
-/* 1 where the command is one of the 32, else 0. */
+/* 1 where the command is one of the 33, else 0. */
 uint8_t wick_known(uint8_t command);
 
 /* Maps in reply data, as one number whose bit k stands for event type, scene, gear or gear type k. Refusal 11 where there are not 2, 2, 8 or 4

@@ -62,6 +62,10 @@ def unicast(sequence, port_and_address):
     return summed(bytes([0x04, sequence, 0x40, 0x06]) + port_and_address)
 
 
+def colour(type_, data, sequence=0, address=1, level=254):
+    return summed(bytes([0x04, sequence, 0x0E, address, level, type_]) + data)
+
+
 def reply(type_, sequence, data):
     return summed(bytes([type_, sequence, len(data)]) + data)
 
@@ -208,7 +212,8 @@ def with_each_place(arguments, values):
 
 
 def edge_arguments(command):
-    """The arguments to try with the command: each place at each edge, the other places at a good value."""
+    """The arguments to try with the command: each place at each edge, the other places at a good value. Of unknown commands, and of 0E, which
+    W-202 has made a known one without arguments like these: each place at 0 and 255."""
     if command in opinion.BASIC:
         good = good_arguments(command, min) + good_arguments(command, max)
         return [arguments for start in good for arguments in with_each_place(start, EDGES)]
@@ -441,6 +446,7 @@ def reply_data():
 
 # The book
 
+# The 32 commands of document 01. The one of W-202, 0E, has cases of its own, so that what is picked by chance among these stays.
 KNOWN = sorted(list(opinion.BASIC) + [opinion.UNICAST])
 
 
@@ -580,15 +586,57 @@ def reply_piece(chance):
 PIECES = {"request": request_piece, "reply": reply_piece}
 
 
+def stream_of(piece, chance):
+    """A short stream of such pieces."""
+    return b"".join(piece(chance) for _ in range(1 + chance.below(4)))
+
+
 def some_stream(line, chance):
     """A short stream of the line."""
-    return b"".join(PIECES[line](chance) for _ in range(1 + chance.below(4)))
+    return stream_of(PIECES[line], chance)
 
 
 def cut(stream, chance):
     """The stream in parts, cut by chance; parts may be empty."""
     places = sorted(chance.below(len(stream) + 1) for _ in range(chance.below(5)))
     return [stream[first:last] for first, last in zip([0] + places, places + [len(stream)])]
+
+
+class EarlierReader:
+    """A reader of a line by document 01 alone: 0E is an unknown command, and at most 10 bytes of a request line are held.
+
+    What is fed next is what was left before, and these kinds keep their lines from before W-202, so that answers can be compared line by line. Where
+    0E stands on a request line, the reader of today takes other bytes than this one: there it is handed some bytes twice and others never,
+    and what it holds at the end stays for the next line. The kinds of W-202 ask that reader itself."""
+
+    MOST = {"request": 10, "reply": 67}
+
+    def __init__(self, line, claim=0, store=b""):
+        self.line = line
+        self.held = (store + bytes(67 - len(store)))[:claim] if claim <= self.MOST[line] else b""
+
+    def settle(self, run):
+        """The item at the front of the run and its byte count; None where a rule needs more bytes."""
+        if self.line == "request" and run[:1] == b"\x04" and run[2:3] == b"\x0E":
+            return 3, 1
+        return opinion.settle(self.line, run)
+
+    def feed(self, part):
+        """One feeding call: how many bytes of the part it takes, and the item, or None for "nothing yet"."""
+        for taken in range(len(part) + 1):
+            run = self.held + part[:taken]
+            item = self.settle(run)
+            if item:
+                self.held = run[item[1]:]
+                return taken, item
+        self.held += part
+        return len(part), None
+
+    def close(self):
+        """One closing call: the item, or None for "empty"."""
+        item = self.settle(self.held) or ((1, 1) if self.held else None)
+        self.held = self.held[item[1]:] if item else b""
+        return item
 
 
 def fed(reader, part):
@@ -608,21 +656,21 @@ def closed(reader):
         item = reader.close()
 
 
-def fed_and_closed(line, parts):
+def fed_and_closed(line, parts, reader_of=EarlierReader):
     """A fresh reader, fed part by part and then closed."""
-    reader = opinion.Reader(line)
+    reader = reader_of(line)
     yield call("fresh_" + line)
     for part in parts:
         yield from fed(reader, part)
     yield from closed(reader)
 
 
-def stream_calls(line, chance):
-    """The calls of one stream: fed in parts, looked at here and there, closed, at times fed again in between."""
-    reader = opinion.Reader(line)
+def stream_calls(line, chance, piece, reader_of=EarlierReader):
+    """The calls of one stream of such pieces: fed in parts, looked at here and there, closed, at times fed again in between."""
+    reader = reader_of(line)
     if chance.one_in(8):
         yield "fresh_" + line
-    for part in cut(some_stream(line, chance), chance):
+    for part in cut(stream_of(piece, chance), chance):
         yield from fed(reader, part)
         if chance.one_in(8):
             yield "show_" + line
@@ -631,7 +679,7 @@ def stream_calls(line, chance):
         yield "close_" + line
         item = reader.close()
         if item and chance.one_in(6):
-            yield from fed(reader, chance.pick([b"", PIECES[line](chance)]))
+            yield from fed(reader, chance.pick([b"", piece(chance)]))
     if chance.one_in(8):
         yield "show_" + line
 
@@ -639,7 +687,7 @@ def stream_calls(line, chance):
 def streams():
     chance = Chance(4)
     for _ in range(1500):
-        waiting = [list(stream_calls("request", chance)), list(stream_calls("reply", chance))]
+        waiting = [list(stream_calls(line, chance, PIECES[line])) for line in ["request", "reply"]]
         while waiting[0] or waiting[1]:
             calls = chance.pick([calls for calls in waiting if calls])
             yield calls.pop(0)
@@ -675,9 +723,9 @@ STORES = {
 }
 
 
-def held_calls(line, claim, store, parts):
+def held_calls(line, claim, store, parts, reader_of=EarlierReader):
     """A reader handed in: looked at, fed, looked at again and closed."""
-    reader = opinion.Reader(line, claim, store)
+    reader = reader_of(line, claim, store)
     yield call("hold_" + line, wide(claim, 8), store)
     yield "show_" + line
     for part in parts:
@@ -698,7 +746,7 @@ def handed_in():
             yield from held_calls(line, claim, STORES[line][0], [PIECES[line](chance)])
         for _ in range(100):
             store = (some_stream(line, chance) + some_stream(line, chance))[:chance.below(68)]
-            claim = chance.below(opinion.HELD_MOST[line] + 2)
+            claim = chance.below(EarlierReader.MOST[line] + 2)
             yield from held_calls(line, claim, store, cut(some_stream(line, chance), chance)[:2])
 
 
@@ -2509,6 +2557,366 @@ def no_calls():
     yield "sum 04 00 01 0A 00 00 00 0F"
 
 
+# W-202: colour requests
+
+# The colour types by name, with some colour data of each: no two bytes alike.
+COLOURS = [("xy", 0x10, bytes([0x12, 0x34, 0x56, 0x78])), ("tc", 0x20, bytes([0x01, 0x72])),
+           ("rgbwaf", 0x80, bytes([0xFF, 0x81, 0x42, 0x23, 0x14, 0x05]))]
+COLOUR_FRAMES = [colour(type_, data) for _, type_, data in COLOURS]
+
+LISTED_TYPES = [0x10, 0x20, 0x80]
+UNLISTED_TYPES = [0x00, 0x01, 0x0F, 0x11, 0x7F, 0x81, 0xFF]
+
+# Both sides of every edge of the lighting targets.
+COLOUR_ADDRESSES = [0, 63, 64, 79, 80, 81, 126, 127, 128, 254, 255]
+
+# The example of source 002, line 2462: the type 00 is none of its list.
+PRINTED_COLOUR = bytes([0x04, 0x00, 0x0E, 0x01, 0xFE, 0x00, 0xFF, 0x00, 0x00, 0x00, 0x00, 0x00, 0x0A])
+
+
+def spoilt(frame):
+    """The frame with a wrong sum."""
+    return replaced(frame, len(frame) - 1, frame[-1] ^ 0x55)
+
+
+def write_colour(name, data, buffer, sequence=0, address=1, level=254):
+    return call("write_colour_" + name, bytes([sequence, address, level]) + data, buffer)
+
+
+def of_size(type_, size):
+    """A datagram of so many bytes that is as far a colour request of the type as they go, its sum right."""
+    return summed((bytes([0x04, 0x00, 0x0E, 0x01, 0xFE, type_]) + pattern(9))[:size - 1])
+
+
+# Datagrams
+
+def printed_colour():
+    """The printed example, with another type, and with the sum that belongs to it."""
+    for type_ in [0x00] + LISTED_TYPES:
+        frame = replaced(PRINTED_COLOUR, 5, type_)
+        for datagram in [frame, resummed(frame)]:
+            yield from [call("request", datagram), call("settle_request", datagram), call("relay_request", datagram, pattern(13))]
+
+
+def colour_sizes():
+    """Each type in datagrams of every size to 15, the sum right and wrong; below 7 as far as the bytes go."""
+    for _, type_, _ in COLOURS:
+        for size in range(7):
+            yield call("request", of_size(type_, 7)[:size])
+        for size in range(7, 16):
+            yield call("request", of_size(type_, size))
+            yield call("request", spoilt(of_size(type_, size)))
+
+
+def colour_bytes():
+    """Each byte of a frame of each type changed, with the sum as it was and put right."""
+    for frame in COLOUR_FRAMES:
+        for datagram in byte_changes(frame, range(len(frame))):
+            yield call("request", datagram)
+
+
+def colour_types():
+    """Every colour type in datagrams of 8 bytes and of each type's own size."""
+    for type_ in range(256):
+        for size in [8, 9, 11, 13]:
+            yield call("request", of_size(type_, size))
+
+
+def colour_addresses():
+    """Every address with one of the types; those about the edges with each: as datagrams, in writing, relayed and on the line."""
+    for address in range(256):
+        _, type_, data = COLOURS[address % 3]
+        yield call("request", colour(type_, data, 0, address))
+    for address in COLOUR_ADDRESSES:
+        for name, type_, data in COLOURS:
+            frame = colour(type_, data, 7, address, 128)
+            yield from [call("request", frame), call("request", spoilt(frame)), call("request", resummed(frame[:-1]))]
+            yield call("settle_request", frame)
+            for size in [len(frame) - 1, len(frame)]:
+                yield write_colour(name, data, pattern(size), 7, address, 128)
+            yield call("relay_request", frame, pattern(len(frame) + 1))
+
+
+def colour_faults():
+    """Lead, command, type and address wrong in every choice, the sum right or not, in sizes too short, of another type and its own."""
+    for frame in COLOUR_FRAMES:
+        for wrong in subsets([(0, 0x05), (2, 0x0F), (5, 0x00), (3, 80)]):
+            datagram = frame
+            for place, value in wrong:
+                datagram = replaced(datagram, place, value)
+            datagram = resummed(datagram)
+            for size in sorted(set([7, 8, 9, len(frame)])):
+                yield call("request", datagram[:size])
+            yield call("request", spoilt(datagram))
+            yield call("relay_request", datagram, pattern(len(frame) - 1))
+
+
+WIDE_VALUES = [0, 1, 255, 256, 370, 0x7201, 32767, 32768, 65534, 65535]
+
+
+def colour_values():
+    """Colour data whose bytes and numbers are told apart: X from Y, the high byte from the low one, each channel from the others; and the ends."""
+    for x in [0, 1, 256, 65535]:
+        for y in [0, 1, 256, 65535]:
+            yield "xy", wide(x, 2) + wide(y, 2)
+    for value in WIDE_VALUES:
+        yield "tc", wide(value, 2)
+        yield "xy", wide(value, 2) + wide(65535 - value, 2)
+    for place in range(6):
+        yield "rgbwaf", replaced(bytes(6), place, 255)
+        yield "rgbwaf", replaced(b"\xFF" * 6, place, place + 1)
+    for size in [0, 1, 255]:
+        yield "rgbwaf", bytes([size] * 6)
+
+
+def colours_read_and_written():
+    """These values, levels and sequence numbers, read and written; and relays into buffers of every size about the frame's."""
+    types = {name: type_ for name, type_, _ in COLOURS}
+    for number, (name, data) in enumerate(colour_values()):
+        frame = colour(types[name], data, number, [0, 79, 127, 255][number % 4], 37 * number % 256)
+        yield call("request", frame)
+        yield write_colour(name, data, pattern(len(frame)), frame[1], frame[3], frame[4])
+    for value in [0, 1, 4, 14, 127, 128, 254, 255]:
+        for name, type_, data in COLOURS:
+            for sequence, level in [(value, 0), (0, value)]:
+                yield call("request", colour(type_, data, sequence, 64, level))
+                yield write_colour(name, data, pattern(13), sequence, 64, level)
+    for frame in COLOUR_FRAMES:
+        for size in [0, 1, len(frame) - 1, len(frame), len(frame) + 1, len(frame) + 5]:
+            yield call("relay_request", frame, pattern(size))
+
+
+def colours_into_buffers():
+    """Buffers of every size to some beyond the frame, the address good and not; and 0E handed to the writer of basic requests."""
+    for name, type_, data in COLOURS:
+        for address in [1, 80]:
+            for size in list(range(len(colour(type_, data)) + 3)) + [40]:
+                yield write_colour(name, data, pattern(size), 0, address)
+    for arguments in [bytes(4), bytes([1, 254, 0x10, 0]), bytes([1, 254, 0x20, 1]), bytes([80, 254, 0x80, 0]), bytes([255, 0, 0, 255])]:
+        for command in [0x0D, 0x0E, 0x0F]:
+            for size in [0, 7, 8, 13]:
+                yield call("write_basic", bytes([9, command]) + arguments, pattern(size))
+
+
+def colour_command():
+    """0E between its neighbours, which are unknown, and the types as commands: of the three, 20 is one."""
+    for command in [0x0C, 0x0D, 0x0E, 0x0F] + LISTED_TYPES:
+        yield from [call("known", [command]), call("shape", [command]), call("name", [1, command], pattern(12))]
+        for arguments in [bytes(4), bytes([1, 254, 0x10, 0]), bytes([80, 0, 0, 0]), bytes([64, 0, 0, 31]), b"\xFF" * 4]:
+            yield call("fits", bytes([command]) + arguments)
+    for size in [0, 10, 11]:
+        yield call("name", [1, 0x0E], pattern(size))
+    yield "help"
+
+
+def colour_books():
+    """0E asked and answered, in fresh books, full ones and books handed in; its neighbours are nothing held."""
+    yield from ["book_fresh", ask(0x0E), "book_show", answered(0), answered(0), ask(0x0D), ask(0x0F), ask(0x0E), ask(0x40), ask(0x0E), "book_show"]
+    yield from [answered(1), answered(2), answered(3), answered(3), "book_show"]
+    for last in [0, 127, 255]:
+        full = bytes([0x0E] * 256)
+        yield from [book_set(last, full), ask(0x0E), ask(0x01), ask(0x0D), ask(0x0F), answered(last), ask(0x0E), answered(9), ask(0x0E), "book_show"]
+        for nothing in [0x0D, 0x0E, 0x0F]:
+            for free in [last, (last + 1) % 256]:
+                yield from [book_set(last, replaced(full, free, nothing)), ask(0x0E), answered(free), ask(0x09), answered(free)]
+        yield from [book_set(last, bytes([0x0D, 0x0E, 0x0F, 0x0E])), "book_show"]
+        yield from [answered(number) for number in range(4)] + [ask(0x0E), ask(0x0E), ask(0x0E), "book_show"]
+
+
+def colours():
+    for part in [printed_colour(), colour_sizes(), colour_bytes(), colour_types(), colour_addresses(), colour_faults(), colours_read_and_written(),
+                 colours_into_buffers(), colour_command(), colour_books()]:
+        yield from part
+
+
+# Lines
+
+def single(run):
+    """The run byte by byte."""
+    return [run[place:place + 1] for place in range(len(run))]
+
+
+def colour_line(parts):
+    """A request line, fed part by part as its reader takes the bytes, and then closed."""
+    return fed_and_closed("request", parts, opinion.Reader)
+
+
+def cut_colour_lines():
+    """A frame of each type alone, and one between noise that begins like a colour request: in any two parts, and byte by byte."""
+    for number, (_, type_, data) in enumerate(COLOURS):
+        # a 04 in front makes the sequence number the command, and the level the colour type: a listed one for the first and the last
+        trap = bytes([0xFF, 0x04]) + colour(type_, data, 0x0E, 79, [0x20, 0x21, 0x10][number]) + bytes([0x04, 0x00])
+        for stream in [colour(type_, data, 3, 255, 0), trap]:
+            for place in range(len(stream) + 1):
+                yield from colour_line([stream[:place], stream[place:]])
+            yield from colour_line(single(stream))
+
+
+def targets_on_colour_lines():
+    """The addresses about the edges, with each type, one behind the other; then a good basic request, which shows where reading goes on."""
+    for address in COLOUR_ADDRESSES:
+        frames = [colour(type_, data, 1, address, 4) for _, type_, data in COLOURS]
+        yield from colour_line([b"".join(frames) + basic(2, 0x09, [0, 0, 0, 0])])
+
+
+def unlisted_types_on_lines():
+    """Types of no list: settled by the sixth byte, one byte long; a good frame behind it, or from the sixth byte on, is not lost."""
+    good = basic(5, 0x09, [0, 0, 0, 0])
+    for type_ in UNLISTED_TYPES:
+        head = bytes([0x04, 0x00, 0x0E, 0x01, 0xFE, type_])
+        for size in range(5, 8):
+            yield call("settle_request", (head + good)[:size])
+        yield from colour_line([head + good])
+    for type_ in [0x00, 0x7F]:
+        yield from colour_line(single(bytes([0x04, 0x00, 0x0E, 0x01, 0xFE, type_]) + good))
+    yield from colour_line([bytes([0x04, 0x00, 0x0E, 0x01, 0xFE]) + good])
+    yield from colour_line(single(bytes([0x04, 0x00, 0x0E, 0x01, 0xFE]) + good))
+    for frame in [PRINTED_COLOUR, resummed(replaced(PRINTED_COLOUR, 5, 0x80))]:
+        yield from colour_line([basic(1, 0x0B, [0, 0, 0, 0]) + frame + good])
+
+
+def frames_inside():
+    """Wrong sums around good frames: behind the colour type; and from the address on, where the level is a sequence number and the type a command."""
+    inner = [basic(5, 0xA9, [79, 0, 0, 0]), unicast(6, bytes([0x22, 0x6B, 0x04, 0x00, 0x0E, 0x01])), colour(0x20, bytes([1, 0x72]), 7)]
+    for _, type_, _ in COLOURS:
+        for frame in inner:
+            yield from colour_line([bytes([0x04, 0x00, 0x0E, 0x02, 0xFD, type_]) + frame])
+    for level in [0, 0x0E]:
+        stream = bytes([0x04, 0x00, 0x0E]) + basic(level, 0x20, [0, 1, 2, 3]) + bytes([0x04])
+        yield from colour_line([stream])
+        yield from colour_line(single(stream))
+    # the same with a right sum around it: the outer frame stands
+    around = basic(7, 0x20, [0, 1, 0, 0])
+    yield from colour_line([summed(bytes([0x04, 0x00, 0x0E]) + around[:5]) + around])
+    # frames of one type whose bytes are right for another: the type alone says how long they are
+    for _, type_, _ in COLOURS:
+        for size in [9, 11, 13]:
+            yield from colour_line([of_size(type_, size) + basic(5, 0x09, [0, 0, 0, 0])])
+
+
+def closed_colour_lines():
+    """A frame of each type closed at every length, and what stands at each, open and closed."""
+    for frame in COLOUR_FRAMES:
+        for size in range(len(frame) + 1):
+            yield from colour_line([frame[:size]])
+            for flag in [0, 1]:
+                yield call("item_request", [flag], frame[:size])
+            yield call("settle_request", frame[:size])
+        # closed once and fed on from what is still held
+        reader = opinion.Reader("request")
+        yield "fresh_request"
+        yield from fed(reader, frame[:6])
+        for part in [frame, frame[:7], frame]:
+            yield "close_request"
+            reader.close()
+            yield from fed(reader, part)
+        yield from closed(reader)
+
+
+# What a reader of the request line may hold since W-202, in 14 bytes each: a good frame of each type and the beginning of another, a type of no
+# list, a wrong sum around a good frame, one around the beginning of another, an address that is none, and a longer frame that has begun.
+COLOUR_STORES = [
+    colour(0x10, bytes([1, 2, 3, 4]), 2) + bytes([0x04, 0x07, 0x0E]),
+    colour(0x20, bytes([1, 0x72]), 3) + bytes([0x04, 0x07, 0x0E, 0x01, 0xFE]),
+    colour(0x80, bytes([1, 2, 3, 4, 5, 6]), 4) + bytes([0x04]),
+    bytes([0x04, 0x00, 0x0E, 0x01, 0xFE, 0x00]) + basic(2, 0x09, [0, 0, 0, 0]),
+    bytes([0x04, 0x00, 0x0E, 0x01, 0xFE, 0x80]) + basic(2, 0x09, [0, 0, 0, 0]),
+    bytes([0x04, 0x00, 0x0E]) + colour(0x10, bytes([5, 6, 7, 8]), 0x20),
+    colour(0x20, bytes([1, 0x72]), 5, 80) + bytes([0x04, 0x00, 0x40, 0x06, 0x01]),
+    unicast(6, bytes([1, 2, 3, 4, 5, 6])) + bytes([0xFF, 0x04, 0x00]),
+]
+
+
+def colour_readers_handed_in():
+    """Claims about 10 and 12 over these bytes, closed at once, or fed what is missing and a good frame; 11 and 12 over those of document 01."""
+    for claim in range(9, 15):
+        for number, store in enumerate(COLOUR_STORES):
+            if claim in [11, 12] or (claim + number) % 2:
+                yield from held_calls("request", claim, store, [], opinion.Reader)
+            if claim in [11, 12] or (claim + number) % 2 == 0:
+                yield from held_calls("request", claim, store, [store[claim:] + COLOUR_FRAMES[1]], opinion.Reader)
+    for number, store in enumerate(STORES["request"]):
+        yield from held_calls("request", 11 + number % 2, store, [COLOUR_FRAMES[1]], opinion.Reader)
+    for claim in [5, 6, 255, 2 ** 64 - 1]:
+        yield from held_calls("request", claim, COLOUR_STORES[2], [COLOUR_STORES[2]], opinion.Reader)
+
+
+def some_colour(chance):
+    """A colour request, seldom with an address that is no lighting target."""
+    _, type_, data = chance.pick(COLOURS)
+    address = chance.below(256) if chance.one_in(6) else chance.pick(sorted(opinion.LIGHTING_TARGET))
+    return colour(type_, chance.run(len(data)), chance.below(256), address, chance.below(256))
+
+
+def colour_piece(chance):
+    """A piece of a request line with colour requests on it."""
+    frame = some_colour(chance)
+    head = bytes([0x04, chance.below(256), 0x0E, chance.below(256), chance.below(256)])
+    return chance.pick([
+        frame,
+        frame,
+        resummed(damaged_frame(chance, frame)),
+        damaged_frame(chance, frame),
+        frame[:3 + chance.below(9)] + some_colour(chance),
+        head + bytes([chance.pick(LISTED_TYPES)]) + some_request(chance),
+        head + bytes([chance.below(256)]) + chance.run(chance.below(8)),
+        bytes(chance.pick([0x04, 0x0E, 0x10, 0x20, 0x80, chance.below(256)]) for _ in range(1 + chance.below(8))),
+        request_piece(chance),
+    ])
+
+
+def colour_streams():
+    """Streams by chance with colour requests on them."""
+    chance = Chance(15)
+    for _ in range(25):
+        yield from stream_calls("request", chance, colour_piece, opinion.Reader)
+
+
+def colours_on_lines():
+    for part in [cut_colour_lines(), targets_on_colour_lines(), unlisted_types_on_lines(), frames_inside(), closed_colour_lines(),
+                 colour_readers_handed_in(), colour_streams()]:
+        yield from part
+
+
+# Lines that are no call of colour requests, by the rows of the table, from its second.
+COLOUR_NO_CALLS = [
+    filled("write_colour_tc 00 01 FE 01 72 /" + " 00" * 1354, 4095), filled("write_colour_tc 00 01 FE 01 72 /" + " 00" * 1354, 4096),
+
+    "write_colour", "write_colour_", "write_colour_x", "write_colour_xyz", "write_colour_XY 00 01 FE 12 34 56 78 /", "Write_colour_tc",
+    "write_color_tc", "write_colour_rgb", "write_colour_rgbw", "write_colour_rgbwa", "write_colourxy", "write_colour xy", "write_tc", "write_rgbwaf", "colour",
+    "colour_xy", "colour_tc 00 01 FE 01 72 /", "request_colour", "relay_colour", "rgbwaf",
+
+    "write_colour_xy 00 01 FE 12 34 56 7 /", "write_colour_xy 00 01 FE 1234 5678 / 00", "write_colour_xy 0.3 0.3 /", "write_colour_tc 00 01 FE 0172 /",
+    "write_colour_tc 00 01 FE 01 72/", "write_colour_tc 00 01 FE 01 72 / 0", "write_colour_tc 370", "write_colour_rgbwaf zz",
+    "write_colour_rgbwaf #FF0000 /", "write_colour_rgbwaf 00 01 FE 01 02 03 04 05 06 /00",
+
+    "write_colour_xy", "write_colour_xy 00 01 FE 12 34 56 78", "write_colour_xy 00 01 FE 12 34 56 78 / 00 / 00",
+    "write_colour_xy 00 01 FE / 12 34 56 78 / 00", "write_colour_xy / /", "write_colour_tc", "write_colour_tc 00 01 FE 01 72", "write_colour_tc 00 01 FE 01 72 / 00 /",
+    "write_colour_tc / /", "write_colour_rgbwaf", "write_colour_rgbwaf 00 01 FE 01 02 03 04 05 06", "write_colour_rgbwaf 00 01 FE 01 02 03 04 05 06 / / 00",
+    "write_colour_rgbwaf 00 / 01 / FE",
+
+    "write_colour_xy /", "write_colour_xy / 00", "write_colour_xy 00 01 FE 12 34 56 /", "write_colour_xy 00 01 FE 12 34 56 78 9A / 00",
+    "write_colour_xy 00 01 FE 10 12 34 56 78 /", "write_colour_xy 00 01 FE 01 72 /", "write_colour_tc /", "write_colour_tc / 00",
+    "write_colour_tc 00 01 FE 01 / 00", "write_colour_tc 00 01 FE 01 72 00 /", "write_colour_tc 00 01 FE 20 01 72 / 00", "write_colour_rgbwaf /",
+    "write_colour_rgbwaf / 00", "write_colour_rgbwaf 00 01 FE 01 02 03 04 05 /", "write_colour_rgbwaf 00 01 FE 01 02 03 04 05 06 07 / 00",
+    "write_colour_rgbwaf 00 01 FE 01 02 03 /",
+]
+
+COLOUR_CALLS_SET_OTHERWISE = [
+    "  write_colour_xy  00 4f fE 12 34 56 78  /  aa bb cc dd ee ff 00 11 22 33 44 55  ", "write_colour_xy 00 4F FE 12 34 56 78 /",
+    "write_colour_tc 0a 7f fe 01 72 /", " write_colour_tc 0a 7f fe 01 72 / 00 00 00 00 00 00 00 00 00", "write_colour_tc 0A 7F FE 01 72 / ",
+    "write_colour_rgbwaf  ff ff ff ff ff ff ff ff ff /" + " 00" * 13, "write_colour_rgbwaf FF fe FF 01 02 03 04 05 06 /",
+    " request  04 0a 0e 7f fe 20 01 72 d2 ", "feed_request 04 0a 0e 7f fe 20 01 72 d2", "close_request", " ask 0e ", "book_show",
+]
+
+
+def no_colour_calls():
+    """Lines that are no call, between what the run carries, set before them and shown behind them; the last line has no line feed."""
+    yield from ["fresh_request", "feed_request 04 00 0E 01 FE", "book_fresh", "ask 0E"]
+    yield from COLOUR_NO_CALLS + ["show_request", "book_show", "feed_request 20 01 72 A6", "close_request"] + COLOUR_CALLS_SET_OTHERWISE
+    yield "request 04 00 0E 7F FE 20 01 72 D8"
+
+
 KINDS = [
     ("bench cases of document 01", bench_cases),
     ("frames of source 002", source_frames),
@@ -2531,6 +2939,9 @@ KINDS = [
     ("seasons of corridors (W-213)", four_seasons),
     ("seasons part by part (W-213)", seasons_in_parts),
     ("lines that are no call", no_calls),
+    ("colour requests (W-202)", colours),
+    ("colour requests on the line (W-202)", colours_on_lines),
+    ("lines that are no call of colour requests (W-202)", no_colour_calls),
 ]
 
 

@@ -48,6 +48,15 @@ UNICAST = 0x40  # "the one dynamic request 40"
 UNICAST_LENGTH = 6  # its length byte: port in 2, address in 4
 UNICAST_SIZE = 11
 
+# Document 02, W-202: "that frame as source 002 gives it under "DALI Colour Request Frame", with every colour type there". Behind the command
+# stand address, arc level, colour type and colour data.
+COLOUR = 0x0E
+COLOUR_SIZE = 7  # and the colour data
+XY = 0x10  # "[X Hi byte] [X Lo byte] [Y Hi byte] [Y Lo byte]"
+TC = 0x20  # "[TC Hi byte] [TC Lo byte]"
+RGBWAF = 0x80  # "[Red] [Green] [Blue] [White] [Amber] [Free colour]"
+COLOUR_DATA_SIZES = {XY: 4, TC: 2, RGBWAF: 6}
+
 REPLY_TYPES = span(0xA0, 0xA3)  # OK, ANSWER, NO_ANSWER, ERROR
 ERROR_REPLY = 0xA3
 REPLY_SIZE = 4  # and n data bytes
@@ -174,7 +183,7 @@ RULES = {
     "status": Rule([(STATUS_TARGET, ZERO, ZERO, ZERO)], lambda a, b, c, d: status(a)),
 }
 
-# The commands of basic shape. "With 40 these are 32 commands; each other number is unknown."
+# The commands of basic shape. "With 40 these are 32 commands; each other number is unknown." With 0E of W-202 they are 33.
 BASIC = {
     0x01: "group",
     0x08: "emit",
@@ -196,25 +205,34 @@ BASIC = {
 
 
 def known(command):
-    """Whether the command is one of the 32."""
-    return command == UNICAST or command in BASIC
+    """Whether the command is one of the 33."""
+    return command in [UNICAST, COLOUR] or command in BASIC
 
 
-def request_size(command):
-    """The size of the frame of a known command."""
-    return UNICAST_SIZE if command == UNICAST else BASIC_SIZE
+# "The length of a request now depends on the colour type as well as the command."
+def request_sizes(command):
+    """The place of the byte that says how long the frame of a known command is, and the frame's size for each value it may have there: the
+    length byte of request 40, the colour type of a colour request, and of a basic one the command itself."""
+    if command == UNICAST:
+        return 3, {UNICAST_LENGTH: UNICAST_SIZE}
+    if command == COLOUR:
+        return 5, {type_: COLOUR_SIZE + size for type_, size in COLOUR_DATA_SIZES.items()}
+    return 2, {command: BASIC_SIZE}
 
 
-# "Request 40 takes any port and address."
+# "Request 40 takes any port and address." Of a colour request (W-202): "its address is a lighting target, its other values any".
 def fits(command, arguments):
     """Whether the arguments of a known command lie in the table."""
     if command == UNICAST:
         return True
+    if command == COLOUR:
+        return arguments[0] in LIGHTING_TARGET
     return any(all(argument in place for argument, place in zip(arguments, case))
                for case in RULES[BASIC[command]].cases)
 
 
-# Requests: behind the command stand the four arguments, or of request 40 the length byte, the port and the address.
+# Requests: behind the command stand the four arguments, or of request 40 the length byte, the port and the address, or of a colour request the
+# address, the level, the colour type and the colour data.
 
 Request = namedtuple("Request", "sequence command arguments")
 
@@ -225,8 +243,9 @@ def read_request(datagram):
     refuse(2, datagram[0] != REQUEST_LEAD)
     command = datagram[2]
     refuse(3, not known(command))
-    refuse(4, command == UNICAST and datagram[3] != UNICAST_LENGTH)
-    refuse(5, len(datagram) != request_size(command))
+    place, sizes = request_sizes(command)
+    refuse(4, datagram[place] not in sizes)
+    refuse(5, len(datagram) != sizes[datagram[place]])
     refuse(6, exclusive_or(datagram) != 0)
     arguments = datagram[3:-1]
     refuse(7, not fits(command, arguments))
@@ -243,6 +262,13 @@ def write_basic(sequence, command, arguments, buffer):
 def write_unicast(sequence, port_and_address, buffer):
     """Writes a request 40 into the lent buffer; gives the count."""
     return write_frame([REQUEST_LEAD, sequence, UNICAST, UNICAST_LENGTH], port_and_address, buffer)
+
+
+# The colour type is the caller's choice among the three, so no 4 is given here.
+def write_colour(type_, sequence, address, level, data, buffer):
+    """Writes a colour request of this type into the lent buffer; gives the count."""
+    refuse(7, not fits(COLOUR, [address]))
+    return write_frame([REQUEST_LEAD, sequence, COLOUR, address, level, type_], data, buffer)
 
 
 # Replies
@@ -428,7 +454,7 @@ class Book:
 # Reading a line
 
 LEADS = {"request": frozenset([REQUEST_LEAD]), "reply": REPLY_TYPES}
-HELD_MOST = {"request": 10, "reply": 67}
+HELD_MOST = {"request": 12, "reply": 67}  # one less than the longest frame; W-202: "the line reader's most held bytes included"
 STORE_SIZE = 67
 
 
@@ -443,11 +469,12 @@ def settle(line, run):
     if line == "request":
         if not known(run[2]):
             return 3, 1
-        if run[2] == UNICAST and len(run) < 4:
+        place, sizes = request_sizes(run[2])
+        if len(run) <= place:
             return None
-        if run[2] == UNICAST and run[3] != UNICAST_LENGTH:
+        if run[place] not in sizes:
             return 4, 1
-        size = request_size(run[2])
+        size = sizes[run[place]]
     else:
         if run[2] > REPLY_DATA_MOST:
             return 4, 1
@@ -848,8 +875,19 @@ def request_fields(datagram):
     fields = ["sequence", request.sequence, "command", bytes([request.command])]
     if request.command == UNICAST:
         return fields + ["port", high_first(request.arguments[1:3]), "address"] + list(request.arguments[3:])
+    if request.command == COLOUR:
+        target, level, type_ = request.arguments[:3]
+        return fields + ["target", target] + lights(target) + ["level", level] + colour_fields(type_, request.arguments[3:])
     meaning = RULES[BASIC[request.command]].meaning
     return fields + ["arguments", request.arguments] + meaning(*request.arguments)
+
+
+def colour_fields(type_, data):
+    if type_ == XY:
+        return ["xy", high_first(data[:2]), high_first(data[2:])]
+    if type_ == TC:
+        return ["tc", high_first(data)]
+    return ["rgbwaf"] + list(data)
 
 
 def reply_fields(datagram):
@@ -892,7 +930,7 @@ def data_fields(read):
 def shape_fields(command):
     if command in BASIC:
         return ["basic", BASIC[command]]
-    return ["unicast" if known(command) else "unknown"]
+    return [{UNICAST: "unicast", COLOUR: "colour"}.get(command, "unknown")]
 
 
 def fits_fields(command, arguments):
@@ -1004,6 +1042,9 @@ def relay_request(datagram, buffer):
     request = read_request(datagram)
     if request.command == UNICAST:
         return write_unicast(request.sequence, request.arguments[1:], buffer)
+    if request.command == COLOUR:
+        address, level, type_ = request.arguments[:3]
+        return write_colour(type_, request.sequence, address, level, request.arguments[3:], buffer)
     return write_basic(request.sequence, request.command, request.arguments, buffer)
 
 
@@ -1022,7 +1063,7 @@ def relay_event(width, datagram, buffer):
 
 COMMAND_NAMES = {
     0x01: "QUERY_GROUP_LABEL", 0x08: "ENABLE_TPI_EVENT_EMIT", 0x09: "QUERY_GROUP_NUMBERS", 0x0A: "QUERY_SCENE_NUMBERS",
-    0x0B: "QUERY_PROFILE_NUMBERS", 0x0C: "QUERY_OCCUPANCY_INSTANCE_TIMERS", 0x1A: "QUERY_SCENE_NUMBERS_FOR_GROUP",
+    0x0B: "QUERY_PROFILE_NUMBERS", 0x0C: "QUERY_OCCUPANCY_INSTANCE_TIMERS", 0x0E: "DALI_COLOUR", 0x1A: "QUERY_SCENE_NUMBERS_FOR_GROUP",
     0x1B: "QUERY_SCENE_LABEL_FOR_GROUP", 0x1C: "QUERY_CONTROLLER_VERSION_NUMBER", 0x1D: "QUERY_CONTROL_GEAR_DALI_ADDRESSES",
     0x20: "QUERY_DMX_DEVICE_LABEL_BY_NUMBER", 0x31: "DALI_ADD_TPI_EVENT_FILTER", 0x32: "QUERY_DALI_TPI_EVENT_FILTERS",
     0x33: "DALI_CLEAR_TPI_EVENT_FILTERS", 0x34: "QUERY_DALI_COLOUR", 0x40: "SET_TPI_EVENT_UNICAST_ADDRESS",
@@ -1091,6 +1132,12 @@ def by(width, asked):
     return lambda *groups: asked(width, *groups)
 
 
+def write_colour_by(type_):
+    """The writer's call of one colour type: sequence, address and level, then the colour data, whose numbers stand high byte first in the
+    frame too."""
+    return lambda head, buffer: write_colour(type_, head[0], head[1], head[2], head[3:], buffer)
+
+
 def write_event_by(width, head, data, buffer):
     return write_event(width, head[:6], high_first(head[6:10]), head[10], data, buffer)
 
@@ -1101,6 +1148,9 @@ DATAGRAM_CALLS = {
                     lent(lambda head, buffer: write_basic(head[0], head[1], head[2:], buffer))),
     "write_unicast": ([exactly(7), SOME],
                       lent(lambda head, buffer: write_unicast(head[0], head[1:], buffer))),
+    "write_colour_xy": ([exactly(7), SOME], lent(write_colour_by(XY))),
+    "write_colour_tc": ([exactly(5), SOME], lent(write_colour_by(TC))),
+    "write_colour_rgbwaf": ([exactly(9), SOME], lent(write_colour_by(RGBWAF))),
     "reply": ([SOME], plain(reply_fields)),
     "reply_data": ([SOME], plain(data_fields(read_reply))),
     "error_code": ([SOME], plain(error_code_fields)),

@@ -98,6 +98,84 @@ STATED_LATER = [
     ("feed_request 04 00 A1 FF 00 00 0F 55", "0 taken 8 item 0 count 8 bytes 04 00 A1 FF 00 00 0F 55"),
     ("feed_request 04 00 A1 FF 00 00 10 4A", "0 taken 8 item 7 count 8 bytes 04 00 A1 FF 00 00 10 4A"),
     ("feed_request 04 00 1B 02 0D 00 00 10", "0 taken 8 item 7 count 8 bytes 04 00 1B 02 0D 00 00 10"),
+    # W-202: "reading and writing of that frame as source 002 gives it under "DALI Colour Request Frame""
+    ("request 04 00 0E 7F FE 20 01 72 D8", "0 sequence 0 command 0E target 127 broadcast level 254 tc 370"),
+    ("request 04 05 0E 4F 00 10 12 34 56 78 58", "0 sequence 5 command 0E target 79 group 15 level 0 xy 4660 22136"),
+    ("request 04 00 0E FF 01 80 01 02 03 04 05 06 73", "0 sequence 0 command 0E target 255 broadcast level 1 rgbwaf 1 2 3 4 5 6"),
+    # its own example has colour type 00, of no list; with 80 it is another frame, and has another sum
+    ("request 04 00 0E 01 FE 00 FF 00 00 00 00 00 0A", "4"),
+    ("request 04 00 0E 01 FE 80 FF 00 00 00 00 00 0A", "6"),
+    ("request 04 00 0E 01 FE 80 FF 00 00 00 00 00 8A", "0 sequence 0 command 0E target 1 gear 1 level 254 rgbwaf 255 0 0 0 0 0"),
+    # "its address is a lighting target, its other values any"
+    ("request 04 00 0E 3F 00 20 00 00 15", "0 sequence 0 command 0E target 63 gear 63 level 0 tc 0"),
+    ("request 04 00 0E 40 FF 20 FF FF 95", "0 sequence 0 command 0E target 64 group 0 level 255 tc 65535"),
+    ("request 04 00 0E 50 FE 20 01 72 F7", "7"),
+    ("request 04 00 0E 51 FE 20 01 72 F6", "7"),
+    ("request 04 00 0E 80 FE 20 01 72 27", "7"),
+    # 1, 2, 3, "an unlisted colour type is 4, after 3", 5, 6, 7 in this order; "least of its family (8 request)"
+    ("request 04 00 0E 7F FE 20 01", "1"),
+    ("request 05 00 0E 50 FE 21 01 72", "2"),
+    ("request 04 00 0F 50 FE 21 01 72", "3"),
+    ("request 04 00 0E 50 FE 21 01 72", "4"),
+    ("request 04 00 0E 50 FE 20 01 72", "5"),
+    ("request 04 00 0E 7F FE 20 01 AA", "5"),
+    ("request 04 00 0E 7F FE 10 01 72 E8", "5"),
+    ("request 04 00 0E 7F FE 20 01 72 D8 00", "5"),
+    ("request 04 00 0E 50 FE 20 01 72 F6", "6"),
+    # writing: 7, then 8
+    ("write_colour_tc 00 7F FE 01 72 / FF FF FF FF FF FF FF FF FF FF",
+     "0 count 9 before FF FF FF FF FF FF FF FF FF FF after 04 00 0E 7F FE 20 01 72 D8 FF"),
+    ("write_colour_xy 05 4F 00 12 34 56 78 / 00 00 00 00 00 00 00 00 00 00 00",
+     "0 count 11 before 00 00 00 00 00 00 00 00 00 00 00 after 04 05 0E 4F 00 10 12 34 56 78 58"),
+    ("write_colour_rgbwaf 00 01 FE FF 00 00 00 00 00 / 00 00 00 00 00 00 00 00 00 00 00 00 00",
+     "0 count 13 before 00 00 00 00 00 00 00 00 00 00 00 00 00 after 04 00 0E 01 FE 80 FF 00 00 00 00 00 8A"),
+    ("write_colour_xy 00 50 FE 12 34 56 78 / FF", "7 before FF after FF"),
+    ("write_colour_tc 00 50 FE 01 72 /", "7 before after"),
+    ("write_colour_rgbwaf 00 FE FE 01 02 03 04 05 06 /", "7 before after"),
+    ("write_colour_tc 00 4F FE 01 72 / FF FF FF FF FF FF FF FF", "8 before FF FF FF FF FF FF FF FF after FF FF FF FF FF FF FF FF"),
+    ("write_colour_xy 00 4F FE 12 34 56 78 /", "8 before after"),
+    ("relay_request 04 00 0E 7F FE 20 01 72 D8 / 00 00 00 00 00 00 00 00 00 00",
+     "0 count 9 before 00 00 00 00 00 00 00 00 00 00 after 04 00 0E 7F FE 20 01 72 D8 00"),
+    # "its command given to the writer of basic requests is 3"
+    ("write_basic 00 0E 01 FE 20 01 /", "3 before after"),
+    ("write_basic 00 0E 50 00 00 00 / 00 00 00 00 00 00 00 00", "3 before 00 00 00 00 00 00 00 00 after 00 00 00 00 00 00 00 00"),
+    ("known 0E", "0 known"),
+    ("known 0D", "0 unknown"),
+    ("known 0F", "0 unknown"),
+    ("shape 0E", "0 colour"),
+    ("shape 40", "0 unicast"),
+    ("shape 0F", "0 unknown"),
+    ("fits 0E 01 00 00 00", "0 no rule"),
+    ("name 01 0E / 00 00 00 00 00 00 00 00 00 00 00",
+     "0 count 11 before 00 00 00 00 00 00 00 00 00 00 00 after 44 41 4C 49 5F 43 4F 4C 4F 55 52"),
+    # the book takes it as a known command, asked and handed in
+    ("ask 0E", "0 number 0"),
+    ("ask 0F", "3"),
+    ("answer 00", "0 command 0E"),
+    ("answer 00", "10"),
+    ("book_set 00 / 00 0E 0D 0E", "0"),
+    ("ask 01", "0 number 2"),
+    ("answer 03", "0 command 0E"),
+    ("book_show", "0 last 2 held 01 0E 02 01"),
+    # "the items follow the same numbers": 0 by the last byte of the frame, 4 by the sixth byte of the line, and 1 where it does not come
+    ("feed_request 04 00 0E 7F FE", "0 taken 5 nothing"),
+    ("feed_request 20 01 72 D8 04", "0 taken 4 item 0 count 9 bytes 04 00 0E 7F FE 20 01 72 D8"),
+    ("feed_request 04 00 0E 01 FE 00 FF", "0 taken 6 item 4 count 1 bytes 04"),
+    ("show_request", "0 held 5 bytes 00 0E 01 FE 00"),
+    ("fresh_request", "0"),
+    ("feed_request 04 00 0E 01 FE", "0 taken 5 nothing"),
+    ("close_request", "0 item 1 count 1 bytes 04"),
+    ("fresh_request", "0"),
+    ("feed_request 04 00 0E 50 FE 20 01 72 F7 00", "0 taken 9 item 7 count 9 bytes 04 00 0E 50 FE 20 01 72 F7"),
+    ("feed_request 04 00 0E 7F FE 20 01 72 D9 00", "0 taken 9 item 6 count 1 bytes 04"),
+    ("show_request", "0 held 8 bytes 00 0E 7F FE 20 01 72 D9"),
+    # "the line reader's most held bytes included": 12
+    ("hold_request 00 00 00 00 00 00 00 0C / 04 00 0E 01 FE 80 FF 00 00 00 00 00", "0"),
+    ("feed_request 8A", "0 taken 1 item 0 count 13 bytes 04 00 0E 01 FE 80 FF 00 00 00 00 00 8A"),
+    ("hold_request 00 00 00 00 00 00 00 0B / 04 05 0E 4F 00 10 12 34 56 78 58", "0"),
+    ("feed_request", "0 taken 0 item 0 count 11 bytes 04 05 0E 4F 00 10 12 34 56 78 58"),
+    ("hold_request 00 00 00 00 00 00 00 0D / 04 00 0E 01 FE 80 FF 00 00 00 00 00 8A", "0"),
+    ("close_request", "0 empty"),
     # W-206: "two target bytes"; source 002's own examples have them, with what it says of each byte
     ("event_two 5A 43 7C BA CC 2F 40 2E 00 3B 00 01 05 6D",
      "0 mac 7C BA CC 2F 40 2E target 59 type 0 BUTTON_PRESS n 1 instance 5"),
@@ -364,6 +442,10 @@ STATED_LATER = [
      four(NOTHING_IN_IT, NOTHING_IN_IT, NOTHING_IN_IT, "occupied 2 presses 0 holds 0 longest 4294967293 total 4294967293 gaps 1")),
 ]
 
+# The requests that source 002 prints, by the number that reading gives: as printed, and with the sum put right. The one with 4 is DALI_COLOUR.
+PRINTED_REQUESTS = {"0": 26, "3": 44, "4": 1, "6": 6}
+MENDED_REQUESTS = {"0": 32, "3": 44, "4": 1}
+
 # The events that source 002 prints, in the layout of its table: document 01 keeps to the table.
 PRINTED_EVENTS = ["5", "4", "5", "4", "5"]
 
@@ -396,6 +478,14 @@ def items_call_by_call(line, parts):
     while item:
         yield item
         item = reader.close()
+
+
+def read_as_request(datagram):
+    """Whether a datagram is accepted as a request."""
+    try:
+        return bool(opinion.read_request(datagram))
+    except opinion.Refusal:
+        return False
 
 
 def empty_capture(version, size):
@@ -598,7 +688,8 @@ class SelfTest(unittest.TestCase):
         self.assertEqual("".join(lines), SMALL_PROGRAM_OUTPUT)
 
     def test_commands(self):
-        self.assertEqual(sum(opinion.known(command) for command in range(256)), 32)
+        self.assertEqual(sum(opinion.known(command) for command in range(256)), 33)
+        self.assertEqual([command for command in range(256) if opinion.known(command) and command not in cases.KNOWN], [0x0E])
 
     def test_streams_cut_anywhere(self):
         chance = cases.Chance(7)
@@ -608,6 +699,59 @@ class SelfTest(unittest.TestCase):
                 found = list(items_call_by_call(line, cases.cut(stream, chance)))
                 self.assertEqual(found, list(opinion.items(line, stream)))
                 self.assertEqual(b"".join(run for _, run in found), stream)
+
+    def test_readers_without_colour(self):
+        chance = cases.Chance(17)
+        for line in ["request", "reply"]:
+            for _ in range(300):
+                stream = cases.some_stream(line, chance).replace(b"\x0E", b"\x0D")
+                readers = opinion.Reader(line), cases.EarlierReader(line)
+                for part in cases.cut(stream, chance):
+                    self.assertEqual(*[list(cases.fed(reader, part)) for reader in readers])
+                self.assertEqual(*[list(cases.closed(reader)) for reader in readers])
+
+    def test_colours_written_and_read(self):
+        chance = cases.Chance(18)
+        bench = opinion.Bench()
+        for number in range(600):
+            name, type_, data = cases.COLOURS[number % 3]
+            fields = chance.run(3 + len(data))
+            address = fields[1]
+            answer = bench.answer(cases.call("write_colour_" + name, fields, cases.pattern(14)).encode("ascii")).split()
+            if not (address < 80 or address in [127, 255]):
+                self.assertEqual(answer[0], "7")
+                continue
+            frame = bytes.fromhex("".join(answer[answer.index("after") + 1:]))
+            count = int(answer[2])
+            self.assertEqual((count, frame[count:]), (len(data) + 7, cases.pattern(14)[count:]))
+            self.assertEqual(frame[:count], cases.colour(type_, fields[3:], *fields[:3]))
+            first, last = fields[3] * 256 + fields[4], fields[-2] * 256 + fields[-1]
+            values = {"xy": [first, last], "tc": [first], "rgbwaf": list(fields[3:])}
+            lights = "broadcast" if address > 79 else "group %d" % (address - 64) if address > 63 else "gear %d" % address
+            self.assertEqual(bench.answer(cases.call("request", frame[:count]).encode("ascii")),
+                             " ".join(["0 sequence %d command 0E target %d %s level %d %s" % (fields[0], address, lights, fields[2], name)]
+                                      + [str(value) for value in values[name]]))
+            relayed = bench.answer(cases.call("relay_request", frame[:count], bytes(count)).encode("ascii"))
+            self.assertEqual(relayed.split(" after ")[1], opinion.text([frame[:count]]))
+
+    def test_colour_lines_cut_anywhere(self):
+        chance = cases.Chance(19)
+        seen, most = set(), 0
+        for _ in range(300):
+            stream = cases.stream_of(cases.colour_piece, chance)
+            found = list(opinion.items("request", stream))
+            self.assertEqual(b"".join(run for _, run in found), stream)
+            for parts in [[stream[:place], stream[place:]] for place in range(len(stream) + 1)] + [cases.single(stream), cases.cut(stream, chance)]:
+                self.assertEqual(list(items_call_by_call("request", parts)), found)
+            reader = opinion.Reader("request")
+            for byte in cases.single(stream):
+                list(cases.fed(reader, byte))
+                most = max(most, reader.claim)
+            seen.update(number for number, _ in found)
+            # a datagram is accepted exactly where a line that has nothing else on it gives it back
+            for _, run in found + [(None, stream)]:
+                self.assertEqual(read_as_request(run), list(opinion.items("request", run)) == [(0, run)])
+        self.assertEqual((seen, most), ({0, 1, 2, 3, 4, 6, 7}, 12))
 
     def test_appends_by_the_letter_and_by_marks(self):
         for version, size, appends in runs_of_appends(cases.Chance(8)):
@@ -823,6 +967,14 @@ class SelfTest(unittest.TestCase):
             rising = len(set(boundaries)) == 3 and sorted(boundaries) == boundaries
             number = answered(lambda *given: capture.seasons(*given), opinion.Corridor(cases.MAC, 1, 2), boundaries)[0]
             self.assertEqual(number, 0 if rising else 20)
+
+    def test_printed_requests(self):
+        bench = opinion.Bench()
+        printed = [frame for frame in cases.printed_frames() if frame[:1] == b"\x04"]
+        for frames, counts in [(printed, PRINTED_REQUESTS), ([cases.resummed(frame) for frame in printed], MENDED_REQUESTS)]:
+            numbers = [bench.answer(cases.call("request", frame).encode("ascii")).split()[0] for frame in frames]
+            self.assertEqual({number: numbers.count(number) for number in numbers}, counts)
+        self.assertIn(cases.PRINTED_COLOUR, printed)
 
     def test_printed_events(self):
         bench = opinion.Bench()

@@ -14,11 +14,12 @@ use Rattle.lead.specs.Lead.{isRequest, isReply, replyLeast}
 use Rattle.sum.specs.Sum.{sumOf}
 use Rattle.frame.specs.Frame.{byte}
 use Rattle.command.specs.declared.Shape.{Shape}
-use Rattle.command.specs.declared.Shape.the-variants.{Unknown, Basic, Unicast}
+use Rattle.command.specs.declared.Shape.the-variants.{Unknown, Basic, Unicast, Colour}
 use Rattle.command.specs.Command.{shapeOf}
+use Rattle.target.specs.Target.{isLighting}
 use Rattle.ranges.specs.Arguments.{fits}
-use Rattle.command.specs.Length.{Told, unknown, fixed, tested, lengthOf, basicBytes, unicastBytes, Within, length-within}
-use Rattle.request.specs.Reading.{readRequest, readBasic, readUnicast, readShape, stated}
+use Rattle.command.specs.Length.{Told, unknown, fixed, tested, lengthOf, basicBytes, mostBytes, Within, length-within}
+use Rattle.request.specs.Reading.{readRequest, readBasic, readUnicast, readColoured, readShape, stated}
 use Rattle.reply.specs.Reading.{readReply}
 use Rattle.stream.specs.Stream.{Settled}
 use Rattle.line.specs.declared.Line.{Line}
@@ -61,7 +62,7 @@ reply-framed f w =
     rw (l, w .lead) (ap verdict (stated-frame replyLength f _ (w .tells)) ∙ demands-sum (eqb (sumOf f) 0) _)
 
 request-framed : (f : List ℕ) → Leads Request f (Frame (length f)) → datagram Request f ≡ frameVerdict (eqb (sumOf f) 0) (inTable Request f)
-unfolding readRequest readBasic readUnicast
+unfolding readRequest readBasic readUnicast readColoured
 request-framed f w = three (leb 3 (length f)) refl (w .tells)
   where
     long : basicBytes ≤ length f
@@ -78,6 +79,8 @@ request-framed f w = three (leb 3 (length f)) refl (w .tells)
         let table = fits rule (byte 3 f) (byte 4 f) (byte 5 f) (byte 6 f) in
         said (Basic rule) e ∙ ap verdict (stated-frame (lengthOf (Basic rule)) f _ q) ∙ rw e (demands (eqb (sumOf f) 0) table _)
     shaped Unicast e q = said Unicast e ∙ ap verdict (stated-frame (lengthOf Unicast) f _ q) ∙ rw e (demands-sum (eqb (sumOf f) 0) _)
+    shaped Colour e q =
+        said Colour e ∙ ap verdict (stated-frame (lengthOf Colour) f _ q) ∙ rw e (demands (eqb (sumOf f) 0) (isLighting (byte 3 f)) _)
 
     three : (a : Bool) → leb 3 (length f) ≡ a → pick a (lengthExtent (lengthOf (shapeOf (byte 2 f))) f) Wait ≡ Frame (length f)
         → datagram Request f ≡ frameVerdict (eqb (sumOf f) 0) (inTable Request f)
@@ -129,12 +132,14 @@ reply-leads f =
 
 -- a request, by its command's shape
 shape-leads : (f : List ℕ) (x : Shape) → basicBytes ≤ length f → Judged (readShape x f) → lengthExtent (lengthOf x) f ≡ Frame (length f)
-unfolding readBasic readUnicast
+unfolding readBasic readUnicast readColoured
 shape-leads f Unknown l e = clash (let y = e .yes in cc)
 shape-leads f (Basic rule) l e =
-    stated-extent (lengthOf (Basic rule)) f _ (reaches basicBytes unicastBytes (lengthOf (Basic rule)) f (length-within (Basic rule)) l) e
+    stated-extent (lengthOf (Basic rule)) f _ (reaches basicBytes mostBytes (lengthOf (Basic rule)) f (length-within (Basic rule)) l) e
 shape-leads f Unicast l e =
-    stated-extent (lengthOf Unicast) f _ (reaches basicBytes unicastBytes (lengthOf Unicast) f (length-within Unicast) l) e
+    stated-extent (lengthOf Unicast) f _ (reaches basicBytes mostBytes (lengthOf Unicast) f (length-within Unicast) l) e
+shape-leads f Colour l e =
+    stated-extent (lengthOf Colour) f _ (reaches basicBytes mostBytes (lengthOf Colour) f (length-within Colour) l) e
 
 request-leads : (f : List ℕ) → Judged (readRequest f) → Leads Request f (Frame (length f))
 unfolding readRequest

@@ -14,6 +14,7 @@ use bench_parts::Part;
 use bench_requests::Asked;
 use book::Book;
 use by_parts::SoFar;
+use colour::Colour;
 use command::Shape;
 use event::Layout;
 use event::Mac;
@@ -82,6 +83,34 @@ fn write_event(layout: Layout, mac: Mac, head: &[u8], data: &[u8], buffer: &mut 
     writers::event(layout, mac, target, kind, data, buffer)
 }
 
+// Writes a colour request: sequence, target and level, and behind them the channels of its colour.
+fn write_colour(n: usize, head: &[u8], buffer: &mut [u8]) -> Wrote {
+    let first = bench_words::wide16(bench_words::part(head, 3, 5));
+    let colour = match n {
+        0x77 => Colour::Xy {
+            x: first,
+            y: bench_words::wide16(bench_words::part(head, 5, 7)),
+        },
+        0x78 => Colour::Tc(first),
+        _ => Colour::Rgbwaf {
+            red: bench_words::byte_at(head, 3),
+            green: bench_words::byte_at(head, 4),
+            blue: bench_words::byte_at(head, 5),
+            white: bench_words::byte_at(head, 6),
+            amber: bench_words::byte_at(head, 7),
+            free: bench_words::byte_at(head, 8),
+        },
+    };
+    let target = LineTarget(bench_words::byte_at(head, 1));
+    writers::colour(
+        bench_words::byte_at(head, 0),
+        target,
+        bench_words::byte_at(head, 2),
+        colour,
+        buffer,
+    )
+}
+
 // What writes into a lent buffer: head is the first group of the call (the datagram of a relay), data its second where it has three.
 fn write(n: usize, head: &[u8], data: &[u8], buffer: &mut [u8]) -> Wrote {
     let a = bench_words::byte_at(head, 0);
@@ -110,6 +139,7 @@ fn write(n: usize, head: &[u8], data: &[u8], buffer: &mut [u8]) -> Wrote {
         0x74 => relay::event(Layout::Three, head, buffer),
         0x75 => names::name(a, b, buffer),
         0x76 => relay::event(Layout::Two, head, buffer),
+        0x77 | 0x78 | 0x79 => write_colour(n, head, buffer),
         0x80 => writers::reply(a, b, data, buffer),
         0x81 => write_event(Layout::Three, Mac(a, b, c, d, e, f), head, data, buffer),
         0x82 => frame::write(head, data, buffer),
@@ -174,6 +204,7 @@ fn fit(s: &[u8]) -> Fit {
         }
         Shape::Unknown => Fit::NoRule,
         Shape::Unicast => Fit::NoRule,
+        Shape::Colour => Fit::NoRule,
     }
 }
 

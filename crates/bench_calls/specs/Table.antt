@@ -18,6 +18,9 @@ table =
     row "request" 0x10_1_000_FFF_FFF
     ∷ row "write_basic" 0x70_2_006_006_FFF
     ∷ row "write_unicast" 0x71_2_007_007_FFF
+    ∷ row "write_colour_xy" 0x77_2_007_007_FFF
+    ∷ row "write_colour_tc" 0x78_2_005_005_FFF
+    ∷ row "write_colour_rgbwaf" 0x79_2_009_009_FFF
     ∷ row "reply" 0x90_1_000_FFF_FFF
     ∷ row "reply_data" 0xA0_1_000_FFF_FFF
     ∷ row "error_code" 0x91_1_000_FFF_FFF

@@ -7,7 +7,7 @@ use Rattle.words.specs.Words.{text}
 use Rattle.command.specs.declared.Rule.{Rule}
 use Rattle.command.specs.declared.Rule.the-variants.{Group, Emit, Bare, Timers, GroupScene, Channel, Filter, Query, Gear, Inhibit, Scene, Level, Lights, Address, Status}
 use Rattle.command.specs.declared.Shape.{Shape}
-use Rattle.command.specs.declared.Shape.the-variants.{Unknown, Basic, Unicast}
+use Rattle.command.specs.declared.Shape.the-variants.{Unknown, Basic, Unicast, Colour}
 use Rattle.error.specs.declared.Name.{Name}
 use Rattle.error.specs.declared.Name.the-variants.{Number, Nothing}
 use Rattle.target.specs.declared.OnLine.{OnLine}
@@ -26,7 +26,7 @@ abbrev pub knownTexts : Bool → List (List ℕ)
 knownTexts true = text "0 known" ∷ []
 knownTexts false = text "0 unknown" ∷ []
 
--- "`unknown`, `unicast`, or `basic` and the rule"
+-- "`unknown`, `unicast`, `colour`, or `basic` and the rule"
 abbrev pub ruleTexts : Rule → List (List ℕ)
 ruleTexts Group = text "0 basic group" ∷ []
 ruleTexts Emit = text "0 basic emit" ∷ []
@@ -48,6 +48,7 @@ abbrev pub shapeTexts : Shape → List (List ℕ)
 shapeTexts Unknown = text "0 unknown" ∷ []
 shapeTexts (Basic k) = ruleTexts k
 shapeTexts Unicast = text "0 unicast" ∷ []
+shapeTexts Colour = text "0 colour" ∷ []
 
 -- "`fits` or `outside` where the command has the basic shape, else `no rule`"
 abbrev pub fitTexts : Fit → List (List ℕ)

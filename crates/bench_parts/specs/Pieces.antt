@@ -9,7 +9,7 @@ use Rattle.bench_say.specs.declared.Pieces.{Pieces}
 use Rattle.command.specs.declared.Rule.{Rule}
 use Rattle.command.specs.declared.Rule.the-variants.{Group, Emit, Bare, Timers, GroupScene, Channel, Filter, Query, Gear, Inhibit, Scene, Level, Lights, Address, Status}
 use Rattle.command.specs.declared.Shape.{Shape}
-use Rattle.command.specs.declared.Shape.the-variants.{Unknown, Basic, Unicast}
+use Rattle.command.specs.declared.Shape.the-variants.{Unknown, Basic, Unicast, Colour}
 use Rattle.error.specs.declared.Name.{Name}
 use Rattle.error.specs.declared.Name.the-variants.{Number, Nothing}
 use Rattle.target.specs.declared.OnLine.{OnLine}
@@ -25,7 +25,7 @@ use Rattle.bench_parts.specs.declared.Part.the-variants.{Sum, Known, Sha
 use Rattle.bench_parts.specs.Parts.{knownTexts, ruleTexts, shapeTexts, fitTexts, nameTexts, lineTexts, deviceTexts, numberTexts, partTexts}
 
 abbrev pub names : List ℕ
-names = text "0 sum ,0 known,0 unknown,0 unicast,0 basic group,0 basic emit,0 basic bare,0 basic timers,0 basic group_scene,0 basic channel,0 basic filter,0 basic query,0 basic gear,0 basic inhibit,0 basic scene,0 basic level,0 basic lights,0 basic address,0 basic status,0 fits,0 outside,0 no rule,0 name ,0 none,0 target ,0 device ,0 number "
+names = text "0 sum ,0 known,0 unknown,0 unicast,0 basic group,0 basic emit,0 basic bare,0 basic timers,0 basic group_scene,0 basic channel,0 basic filter,0 basic query,0 basic gear,0 basic inhibit,0 basic scene,0 basic level,0 basic lights,0 basic address,0 basic status,0 fits,0 outside,0 no rule,0 name ,0 none,0 target ,0 device ,0 number ,0 colour"
 
 abbrev pub knownKind : Bool → ℕ
 knownKind true = 0x11
@@ -52,6 +52,7 @@ abbrev pub shapeKind : Shape → ℕ
 shapeKind Unknown = 0x21
 shapeKind (Basic k) = ruleKind k
 shapeKind Unicast = 0x31
+shapeKind Colour = 0x1B1
 
 abbrev pub fitKind : Fit → ℕ
 fitKind Fits = 0x131
@@ -112,6 +113,7 @@ unfolding before wordIn
 shape-said Unknown = refl
 shape-said (Basic k) = rule-said k
 shape-said Unicast = refl
+shape-said Colour = refl
 
 fit-said : (f : Fit) → piecesTexts names (three (fitKind f) 0 0 0 0 0) ≡ fitTexts f
 unfolding before wordIn

@@ -69,6 +69,7 @@ fn shape(s: Shape) -> usize
         Shape::Unknown => 0x21,
         Shape::Basic(k) => rule(k),
         Shape::Unicast => 0x31,
+        Shape::Colour => 0x1B1,
     }
 }
 
@@ -148,7 +149,8 @@ pub fn say(out: &mut [u8], at: usize, p: Part) -> usize
         b"0 sum ,0 known,0 unknown,0 unicast,0 basic group,0 basic emit,0 basic bare,\
 0 basic timers,0 basic group_scene,0 basic channel,0 basic filter,0 basic query,\
 0 basic gear,0 basic inhibit,0 basic scene,0 basic level,0 basic lights,0 basic address,\
-0 basic status,0 fits,0 outside,0 no rule,0 name ,0 none,0 target ,0 device ,0 number ",
+0 basic status,0 fits,0 outside,0 no rule,0 name ,0 none,0 target ,0 device ,0 number ,\
+0 colour",
         answer(p),
     )
 }

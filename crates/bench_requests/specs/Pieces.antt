@@ -1,22 +1,25 @@
 -- The answers of this family by value, as the code has them, and that they say the texts of docs/BENCH.md.
 use Prim.Native.Nat.{ℕ}
-use mathlib.Core.Path.{_≡_, refl, sym, ap, _∙_}
+use mathlib.Core.Path.{_≡_, refl, sym, ap, ap₂, _∙_}
 use mathlib.Core.List.{List, [], _∷_, _++_, append-nil}
+use Rattle.text.specs.Text.{decimalOf}
 use Rattle.words.specs.Words.{before, wordIn, text}
 use Rattle.bench_say.specs.Pieces.{piecesTexts, pieceTexts, three, byted}
 use Rattle.bench_say.specs.declared.Pieces.{Pieces}
 use Rattle.target.specs.declared.Target.{Target}
 use Rattle.target.specs.declared.Target.the-variants.{Gear as lit·Gear, Group as lit·Group, Broadcast, Nothing as lit·Nothing}
+use Rattle.colour.specs.declared.Colour.{Colour}
+use Rattle.colour.specs.declared.Colour.the-variants.{Xy, Tc, Rgbwaf}
 use Rattle.meaning.specs.declared.Meaning.{Meaning}
 use Rattle.meaning.specs.declared.Meaning.the-variants.{Nothing, Group, Emit, Timers, GroupScene, Channel, Filter, Query, Gear, Inhibit, Scene, Level, Lit, Target as asked}
 use Rattle.request.specs.declared.Reading.{Reading}
 use Rattle.request.specs.declared.Reading.the-variants.{Accepted, Refused}
 use Rattle.bench_requests.specs.declared.Asked.{Asked}
 use Rattle.bench_requests.specs.declared.Asked.the-variants.{Reading as a·Reading, Target as a·Target}
-use Rattle.bench_requests.specs.Requests.{lightsTexts, meaningTexts, contentsTexts, readingTexts, askedTexts}
+use Rattle.bench_requests.specs.Requests.{lightsTexts, meaningTexts, colourTexts, contentsTexts, readingTexts, askedTexts}
 
 abbrev pub names : List ℕ
-names = text " nothing, group , emit , device , instance , scene , universe , channel , address , mask , start , gear , broadcast, no target, seconds , level ,0 sequence , command , port , ,0"
+names = text " nothing, group , emit , device , instance , scene , universe , channel , address , mask , start , gear , broadcast, no target, seconds , level ,0 sequence , command , port , ,0, target , xy , tc , rgbwaf "
 
 abbrev pub lightsPieces : ℕ → Target → ℕ → ℕ → Pieces
 lightsPieces a (lit·Gear n) c z = three a 0 0xB2 n c z
@@ -39,6 +42,17 @@ meaningPieces (Scene l s) = lightsPieces 0 l 0x52 s
 meaningPieces (Level l n) = lightsPieces 0 l 0xF2 n
 meaningPieces (Lit l) = lightsPieces 0 l 0 0
 meaningPieces (asked l) = lightsPieces 0 l 0 0
+
+-- the first three channels of a colour, and those behind them
+abbrev pub firstPieces : Colour → Pieces
+firstPieces (Xy x y) = three 0x162 x 0x132 y 0 0
+firstPieces (Tc t) = three 0x172 t 0 0 0 0
+firstPieces (Rgbwaf red green blue white amber free) = three 0x182 red 0x132 green 0x132 blue
+
+abbrev pub lastPieces : Colour → Pieces
+lastPieces (Xy x y) = three 0 0 0 0 0 0
+lastPieces (Tc t) = three 0 0 0 0 0 0
+lastPieces (Rgbwaf red green blue white amber free) = three 0x132 white 0x132 amber 0x132 free
 
 abbrev pub headPieces : Reading → Pieces
 headPieces (Accepted q) = byted 0x102 (q .sequence) 0x113 0 0 0 (q .command)
@@ -95,6 +109,12 @@ meaning-said (Level l n) = lights-then l 0xF2 n
 meaning-said (Lit l) = lights-alone l
 meaning-said (asked l) = lights-alone l
 
+colour-said : (c : Colour) → piecesTexts names (firstPieces c) ++ piecesTexts names (lastPieces c) ≡ colourTexts c
+unfolding before wordIn
+colour-said (Xy x y) = refl
+colour-said (Tc t) = refl
+colour-said (Rgbwaf red green blue white amber free) = refl
+
 reading-said : (r : Reading) → piecesTexts names (headPieces r) ++ readingRest r ≡ readingTexts r
 unfolding before wordIn
 reading-said (Accepted q) = refl
@@ -107,6 +127,14 @@ asked-said (a·Target l) = append-nil (piecesTexts names (lightsPieces 0x141 l 0
 -- what functions answer that have these by value
 pub meaning-of : (m : Meaning) {p : Pieces} → p ≡ meaningPieces m → piecesTexts names p ≡ meaningTexts m
 meaning-of m {p} e = ap (piecesTexts names) e ∙ meaning-said m
+
+pub level-of : (l : Target) (n : ℕ) {p : Pieces} → p ≡ lightsPieces 0 l 0xF2 n
+    → piecesTexts names p ≡ lightsTexts l ++ (text " level " ∷ decimalOf n ∷ [])
+unfolding before wordIn
+level-of l n {p} e = ap (piecesTexts names) e ∙ lights-then l 0xF2 n
+
+pub colour-of : (c : Colour) {p q : Pieces} → p ≡ firstPieces c → q ≡ lastPieces c → piecesTexts names p ++ piecesTexts names q ≡ colourTexts c
+colour-of c {p} {q} e f = ap₂ (λ (x y : Pieces). piecesTexts names x ++ piecesTexts names y) e f ∙ colour-said c
 
 pub asked-of : (a : Asked) {p : Pieces} → p ≡ askedPieces a → piecesTexts names p ++ restOf a ≡ askedTexts a
 asked-of a {p} e = ap (λ (y : Pieces). piecesTexts names y ++ restOf a) e ∙ asked-said a

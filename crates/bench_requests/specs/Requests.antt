@@ -6,10 +6,12 @@ use Rattle.words.specs.Words.{text}
 use Rattle.bench_say.specs.Said.{runOf}
 use Rattle.target.specs.declared.Target.{Target}
 use Rattle.target.specs.declared.Target.the-variants.{Gear as lit·Gear, Group as lit·Group, Broadcast, Nothing as lit·Nothing}
+use Rattle.colour.specs.declared.Colour.{Colour}
+use Rattle.colour.specs.declared.Colour.the-variants.{Xy, Tc, Rgbwaf}
 use Rattle.meaning.specs.declared.Meaning.{Meaning}
 use Rattle.meaning.specs.declared.Meaning.the-variants.{Nothing, Group, Emit, Timers, GroupScene, Channel, Filter, Query, Gear, Inhibit, Scene, Level, Lit, Target as asked}
 use Rattle.request.specs.declared.Contents.{Contents}
-use Rattle.request.specs.declared.Contents.the-variants.{Basic, Unicast}
+use Rattle.request.specs.declared.Contents.the-variants.{Basic, Unicast, Colour as coloured}
 use Rattle.request.specs.declared.Request.{Request}
 use Rattle.request.specs.declared.Reading.{Reading}
 use Rattle.request.specs.declared.Reading.the-variants.{Accepted, Refused}
@@ -40,12 +42,25 @@ meaningTexts (Level l n) = lightsTexts l ++ (text " level " ∷ decimalOf n ∷ 
 meaningTexts (Lit l) = lightsTexts l
 meaningTexts (asked l) = lightsTexts l
 
--- "`arguments AA BB CC DD` and the meaning; of request 40, `port N address N N N N`"
+-- "`xy N N`, `tc N` or `rgbwaf N N N N N N`"
+abbrev pub colourTexts : Colour → List (List ℕ)
+colourTexts (Xy x y) = text " xy " ∷ decimalOf x ∷ text " " ∷ decimalOf y ∷ []
+colourTexts (Tc t) = text " tc " ∷ decimalOf t ∷ []
+colourTexts (Rgbwaf red green blue white amber free) =
+    text " rgbwaf " ∷ decimalOf red ∷ text " " ∷ decimalOf green ∷ text " " ∷ decimalOf blue
+    ∷ text " " ∷ decimalOf white ∷ text " " ∷ decimalOf amber ∷ text " " ∷ decimalOf free ∷ []
+
+-- "`target N LIGHTS level N`" and the colour
+abbrev pub colouredTexts : ℕ → Target → ℕ → Colour → List (List ℕ)
+colouredTexts t l n c = (text " target " ∷ decimalOf t ∷ []) ++ ((lightsTexts l ++ (text " level " ∷ decimalOf n ∷ [])) ++ colourTexts c)
+
+-- "`arguments AA BB CC DD` and the meaning; of request 40, `port N address N N N N`"; and of a colour request
 abbrev pub contentsTexts : Contents → List (List ℕ)
 contentsTexts (Basic a m) = (text " arguments" ∷ runOf (a .a ∷ a .b ∷ a .c ∷ a .d ∷ [])) ++ meaningTexts m
 contentsTexts (Unicast port d) =
     text " port " ∷ decimalOf port ∷ text " address " ∷ decimalOf (d .0)
     ∷ text " " ∷ decimalOf (d .1) ∷ text " " ∷ decimalOf (d .2) ∷ text " " ∷ decimalOf (d .3) ∷ []
+contentsTexts (coloured t l n c) = colouredTexts (t .0) l n c
 
 -- "`sequence N command CC`", and the contents
 abbrev pub requestTexts : Request → List (List ℕ)

@@ -1,11 +1,12 @@
 // A request's reading as the bench's answer. docs/BENCH.md, "Datagrams". It leans on crate bench_say, and on crates request,
-// meaning and target for what is said.
+// meaning, colour and target for what is said.
 ghost use mathlib.Core.Path.{_≡_};
 ghost use Rattle.lent.specs.All.{PutsAll};
 ghost use Rattle.bench_say.specs.Pieces.{piecesTexts};
-ghost use Rattle.bench_requests.specs.Requests.{contentsTexts, askedTexts};
-ghost use Rattle.bench_requests.specs.Pieces.{names, lightsPieces, meaningPieces, headPieces, askedPieces, readingRest};
+ghost use Rattle.bench_requests.specs.Requests.{contentsTexts, colouredTexts, askedTexts};
+ghost use Rattle.bench_requests.specs.Pieces.{names, lightsPieces, meaningPieces, firstPieces, lastPieces, headPieces, askedPieces, readingRest};
 use bench_say::Pieces;
+use colour::Colour;
 use meaning::Meaning;
 use request::Contents;
 use request::Reading;
@@ -60,6 +61,14 @@ const BLANK: usize = 0x132;
 
 const ZERO: usize = 0x141;
 
+const TARGET: usize = 0x152;
+
+const XY: usize = 0x162;
+
+const TC: usize = 0x172;
+
+const RGBWAF: usize = 0x182;
+
 fn put(out: &mut [u8], at: usize, p: Pieces) -> usize
     ensures { λ r. ⌜ PutsAll (piecesTexts names p) (now (out .entry)) at r (now (out .exit)) ⌝ }
 {
@@ -67,7 +76,7 @@ fn put(out: &mut [u8], at: usize, p: Pieces) -> usize
         out,
         at,
         b" nothing, group , emit , device , instance , scene , universe , channel , address , mask , \
-start , gear , broadcast, no target, seconds , level ,0 sequence , command , port , ,0",
+start , gear , broadcast, no target, seconds , level ,0 sequence , command , port , ,0, target , xy , tc , rgbwaf ",
         p,
     )
 }
@@ -157,6 +166,67 @@ fn meaning(m: Meaning) -> Pieces
     }
 }
 
+// The first three channels of a colour, and those behind them.
+fn first(c: Colour) -> Pieces
+    ensures { λ r. ⌜ r ≡ firstPieces c ⌝ }
+{
+    match c {
+        Colour::Xy { x, y } => Pieces(XY, x as u64, BLANK, y as u64, 0, 0, 0),
+        Colour::Tc(t) => Pieces(TC, t as u64, 0, 0, 0, 0, 0),
+        Colour::Rgbwaf {
+            red,
+            green,
+            blue,
+            white: _,
+            amber: _,
+            free: _,
+        } => Pieces(
+            RGBWAF,
+            red as u64,
+            BLANK,
+            green as u64,
+            BLANK,
+            blue as u64,
+            0,
+        ),
+    }
+}
+
+fn last(c: Colour) -> Pieces
+    ensures { λ r. ⌜ r ≡ lastPieces c ⌝ }
+{
+    match c {
+        Colour::Xy { x: _, y: _ } => Pieces(0, 0, 0, 0, 0, 0, 0),
+        Colour::Tc(_) => Pieces(0, 0, 0, 0, 0, 0, 0),
+        Colour::Rgbwaf {
+            red: _,
+            green: _,
+            blue: _,
+            white,
+            amber,
+            free,
+        } => Pieces(
+            BLANK,
+            white as u64,
+            BLANK,
+            amber as u64,
+            BLANK,
+            free as u64,
+            0,
+        ),
+    }
+}
+
+// What a colour request holds: its target, what that lights, its level and its colour.
+fn coloured(out: &mut [u8], at: usize, target: u8, lit: Target, level: u8, c: Colour) -> usize
+    ensures { λ r. ⌜ PutsAll (colouredTexts target lit level c) (now (out .entry)) at r (now (out .exit)) ⌝ }
+{
+    let e = put(out, at, Pieces(TARGET, target as u64, 0, 0, 0, 0, 0));
+    let f = put(out, e, lights(0, lit, LEVEL, level as u64));
+    let g = put(out, f, first(c));
+    put(out, g, last(c))
+}
+
 fn contents(out: &mut [u8], at: usize, c: Contents) -> usize
     ensures { λ r. ⌜ PutsAll (contentsTexts c) (now (out .entry)) at r (now (out .exit)) ⌝ }
 {
@@ -189,6 +259,12 @@ fn contents(out: &mut [u8], at: usize, c: Contents) -> usize
                 Pieces(BLANK, address.2 as u64, BLANK, address.3 as u64, 0, 0, 0),
             )
         }
+        Contents::Colour {
+            target,
+            lights: lit,
+            level,
+            colour,
+        } => coloured(out, at, target.0, lit, level, colour),
     }
 }
 

@@ -1,14 +1,20 @@
--- A request as another language is handed it: what a target names, what the arguments mean, and the whole.
+-- A request as another language is handed it: what a target names, what the arguments mean, a colour, and the whole.
 use Prim.Native.Nat.{ℕ}
+use lib.ListN.{getD}
+use lib.Dec.{eqb}
+use Rattle.refusal.specs.Test.{pick}
 use Rattle.refusal.specs.Answer.{Answer, refused, full}
+use Rattle.command.specs.Colours.{xyType, tcType, rgbwafType}
+use Rattle.colour.specs.Colour.{Hue, hue, typeOf}
 use Rattle.target.specs.Target.{Aim, gear as gear·aim, group as group·aim, broadcast, no-target}
 use Rattle.meaning.specs.Meaning.{Sense, bare, group, emit, timers, group-scene, channel, filter, query, gear}
 use Rattle.meaning.specs.Meaning.{inhibit, scene, level, lit, target}
 use Rattle.request.specs.declared.Ipv4.{Ipv4}
-use Rattle.request.specs.Said.{Heard, heard, Inside, arguments, address}
+use Rattle.request.specs.Said.{Heard, heard, Inside, arguments, address, coloured}
 use Rattle.c_datagrams.specs.declared.WickAim.{WickAim}
 use Rattle.c_datagrams.specs.declared.WickMeaning.{WickMeaning}
 use Rattle.c_datagrams.specs.declared.WickAddress.{WickAddress}
+use Rattle.c_datagrams.specs.declared.WickColour.{WickColour}
 use Rattle.c_datagrams.specs.declared.WickRequest.{WickRequest}
 
 -- what a target names, and its number; 0 where no target is meant
@@ -58,10 +64,84 @@ addressIn w = record { 0 = w .b0; 1 = w .b1; 2 = w .b2; 3 = w .b3 }
 abbrev pub noAddress : WickAddress
 noAddress = addressed 0 0 0 0
 
--- the arguments and their meaning, or the port and the address
+-- a colour request before its colour is told: the colour's type, the target and what it lights, the level
+abbrev pub colourless : ℕ → ℕ → WickAim → ℕ → WickColour
+colourless k a t l =
+    record {
+      kind = k;
+      target = a;
+      aim = t;
+      level = l;
+      red = 0;
+      green = 0;
+      blue = 0;
+      white = 0;
+      amber = 0;
+      free = 0;
+      x = 0;
+      y = 0;
+      tc = 0;
+    }
+
+abbrev pub noColour : WickColour
+noColour = colourless 0 0 noAim 0
+
+-- the value of a channel: of a type, by its place there; 0 where the colour is of another type
+abbrev pub channelOf : ℕ → ℕ → Hue → ℕ
+channelOf k i (hue j vs) = pick (eqb j k) (getD vs i 0) 0
+
+-- the target as it stands, what it lights, the level, and each channel of the colour's type; the channels of the others are 0
+abbrev pub colourOut : ℕ → Aim → ℕ → Hue → WickColour
+colourOut a t l h =
+    record {
+      kind = typeOf h;
+      target = a;
+      aim = aimOut t;
+      level = l;
+      red = channelOf rgbwafType 0 h;
+      green = channelOf rgbwafType 1 h;
+      blue = channelOf rgbwafType 2 h;
+      white = channelOf rgbwafType 3 h;
+      amber = channelOf rgbwafType 4 h;
+      free = channelOf rgbwafType 5 h;
+      x = channelOf xyType 0 h;
+      y = channelOf xyType 1 h;
+      tc = channelOf tcType 0 h;
+    }
+
+-- a request before its contents are told
+abbrev pub contentless : ℕ → ℕ → ℕ → WickRequest
+contentless n s k =
+    record {
+      refusal = n;
+      sequence = s;
+      command = k;
+      a = 0;
+      b = 0;
+      c = 0;
+      d = 0;
+      address = noAddress;
+      port = 0;
+      meaning = noMeaning;
+      colour = noColour;
+    }
+
+-- the arguments and their meaning, or the port and the address, or the colour; what the others have is 0
 abbrev pub insideOut : ℕ → ℕ → Inside → WickRequest
 insideOut s k (arguments a b c d m) =
-    record { refusal = 0; sequence = s; command = k; a = a; b = b; c = c; d = d; address = noAddress; port = 0; meaning = meaningOut m }
+    record {
+      refusal = 0;
+      sequence = s;
+      command = k;
+      a = a;
+      b = b;
+      c = c;
+      d = d;
+      address = noAddress;
+      port = 0;
+      meaning = meaningOut m;
+      colour = noColour;
+    }
 insideOut s k (address p i j g h) =
     record {
       refusal = 0;
@@ -74,9 +154,24 @@ insideOut s k (address p i j g h) =
       address = addressed i j g h;
       port = p;
       meaning = noMeaning;
+      colour = noColour;
+    }
+insideOut s k (coloured t lights l h) =
+    record {
+      refusal = 0;
+      sequence = s;
+      command = k;
+      a = 0;
+      b = 0;
+      c = 0;
+      d = 0;
+      address = noAddress;
+      port = 0;
+      meaning = noMeaning;
+      colour = colourOut t lights l h;
     }
 
+-- a refusal: every other field is 0
 abbrev pub requestOut : Answer Heard → WickRequest
-requestOut (refused k) =
-    record { refusal = k; sequence = 0; command = 0; a = 0; b = 0; c = 0; d = 0; address = noAddress; port = 0; meaning = noMeaning }
+requestOut (refused k) = contentless k 0 0
 requestOut (full (heard s k x)) = insideOut s k x

@@ -1,10 +1,11 @@
 // Datagrams as programs in C have them: the structs that crate wickanchor hands over, laid out as C does, and what turns the answers of
-// crates request, reply, error, event and target into them, and addresses back. A refusal is its number by document 01, 0 stands for none,
+// crates request, reply, error, event, target and colour into them, and addresses back. A refusal is its number by document 01, 0 stands for none,
 // and every other field of a refused call is 0. Each contract is an equation over what the answer says.
 ghost use mathlib.Core.Path.{_≡_};
 ghost use Rattle.refusal.specs.Answer.{full};
 ghost use Rattle.frame.specs.Written.{said as saidWrote};
 ghost use Rattle.target.specs.Target.{saidTarget};
+ghost use Rattle.colour.specs.Colour.{saidColour};
 ghost use Rattle.meaning.specs.Meaning.{saidMeaning};
 ghost use Rattle.request.specs.Said.{saidRequest, said as saidReading};
 ghost use Rattle.error.specs.Error.{saidName};
@@ -13,9 +14,10 @@ ghost use Rattle.event_type.specs.Types.{saidInstance};
 ghost use Rattle.event.specs.Layout.{widthOf};
 ghost use Rattle.event.specs.Reading.{saidEvent};
 ghost use Rattle.c_datagrams.specs.Written.{wroteOut};
-ghost use Rattle.c_datagrams.specs.Requests.{aimOut, meansOut, meaningOut, requestOut, addressIn};
+ghost use Rattle.c_datagrams.specs.Requests.{aimOut, meansOut, meaningOut, colourless, colourOut, contentless, requestOut, addressIn};
 ghost use Rattle.c_datagrams.specs.Replies.{replyOut, nameNo, codeOut};
 ghost use Rattle.c_datagrams.specs.Events.{instanceNo, instanceIs, noEvent, eventOut, macIn};
+use colour::Colour;
 use error::Name;
 use event::Event;
 use event::Layout;
@@ -27,6 +29,7 @@ use reply::Code;
 use request::Contents;
 use request::Ipv4;
 use request::Request;
+use target::LineTarget;
 use target::Target;
 
 // How many bytes a writer wrote.
@@ -44,7 +47,7 @@ pub struct WickAim {
 }
 
 // What the arguments of a basic request mean: one of 14 kinds, and its numbers in the order in which crate meaning has them; 0 where it
-// has fewer. Kind 0 is no meaning, as for command 40.
+// has fewer. Kind 0 is no meaning, as for commands 40 and 0E.
 #[repr(C)]
 pub struct WickMeaning {
     pub kind: u8,
@@ -64,7 +67,26 @@ pub struct WickAddress {
     pub b3: u8,
 }
 
-// A request: its four arguments and what they mean, or for command 40 its port and address.
+// What a colour request says: the type of its colour (0 is no colour), its target as it stands, what that lights, the level, and the channels
+// of the type; the channels of the other types are 0.
+#[repr(C)]
+pub struct WickColour {
+    pub kind: u8,
+    pub target: u8,
+    pub aim: WickAim,
+    pub level: u8,
+    pub red: u8,
+    pub green: u8,
+    pub blue: u8,
+    pub white: u8,
+    pub amber: u8,
+    pub free: u8,
+    pub x: u16,
+    pub y: u16,
+    pub tc: u16,
+}
+
+// A request: its four arguments and what they mean, or for command 40 its port and address, or for command 0E its colour.
 #[repr(C)]
 pub struct WickRequest {
     pub refusal: u8,
@@ -77,6 +99,7 @@ pub struct WickRequest {
     pub address: WickAddress,
     pub port: u16,
     pub meaning: WickMeaning,
+    pub colour: WickColour,
 }
 
 // A reply: its data are n bytes of the datagram, from data_at on.
@@ -198,45 +221,125 @@ fn meaning_out(m: Meaning) -> WickMeaning
     }
 }
 
+// A colour request before its colour is told.
+fn colourless(kind: u8, target: u8, aim: WickAim, level: u8) -> WickColour
+    ensures { λ r. ⌜ r ≡ colourless kind target aim level ⌝ }
+{
+    WickColour {
+        kind,
+        target,
+        aim,
+        level,
+        red: 0,
+        green: 0,
+        blue: 0,
+        white: 0,
+        amber: 0,
+        free: 0,
+        x: 0,
+        y: 0,
+        tc: 0,
+    }
+}
+
+// What a colour request says, by the type of its colour.
+fn colour_out(target: LineTarget, lights: Target, level: u8, colour: Colour) -> WickColour
+    ensures { λ r. ⌜ r ≡ colourOut (target .0) (saidTarget lights) level (saidColour colour) ⌝ }
+{
+    let address = target.0;
+    let aim = aim_out(lights);
+    match colour {
+        Colour::Xy { x, y } => {
+            let mut w = colourless(command::COLOUR_XY, address, aim, level);
+            w.x = x;
+            w.y = y;
+            w
+        }
+        Colour::Tc(tc) => {
+            let mut w = colourless(command::COLOUR_TC, address, aim, level);
+            w.tc = tc;
+            w
+        }
+        Colour::Rgbwaf {
+            red,
+            green,
+            blue,
+            white,
+            amber,
+            free,
+        } => {
+            let mut w = colourless(command::COLOUR_RGBWAF, address, aim, level);
+            w.red = red;
+            w.green = green;
+            w.blue = blue;
+            w.white = white;
+            w.amber = amber;
+            w.free = free;
+            w
+        }
+    }
+}
+
+// A request before its contents are told.
+fn contentless(refusal: u8, sequence: u8, command: u8) -> WickRequest
+    ensures { λ w. ⌜ w ≡ contentless refusal sequence command ⌝ }
+{
+    WickRequest {
+        refusal,
+        sequence,
+        command,
+        a: 0,
+        b: 0,
+        c: 0,
+        d: 0,
+        address: WickAddress {
+            b0: 0,
+            b1: 0,
+            b2: 0,
+            b3: 0,
+        },
+        port: 0,
+        meaning: means(0, NO_AIM, 0, 0, 0, 0),
+        colour: colourless(0, 0, NO_AIM, 0),
+    }
+}
+
 fn accepted_request(r: Request) -> WickRequest
     ensures { λ w. ⌜ w ≡ requestOut (full (saidRequest r)) ⌝ }
 {
+    let mut w = contentless(0, r.sequence, r.command);
     let contents = r.contents;
     match contents {
-        Contents::Basic { arguments, meaning } => WickRequest {
-            refusal: 0,
-            sequence: r.sequence,
-            command: r.command,
-            a: arguments.a,
-            b: arguments.b,
-            c: arguments.c,
-            d: arguments.d,
-            address: WickAddress {
-                b0: 0,
-                b1: 0,
-                b2: 0,
-                b3: 0,
-            },
-            port: 0,
-            meaning: meaning_out(meaning),
-        },
-        Contents::Unicast { port, address } => WickRequest {
-            refusal: 0,
-            sequence: r.sequence,
-            command: r.command,
-            a: 0,
-            b: 0,
-            c: 0,
-            d: 0,
-            address: WickAddress {
+        Contents::Basic { arguments, meaning } => {
+            let m = meaning_out(meaning);
+            w.a = arguments.a;
+            w.b = arguments.b;
+            w.c = arguments.c;
+            w.d = arguments.d;
+            w.meaning = m;
+            w
+        }
+        Contents::Unicast { port, address } => {
+            let a = WickAddress {
                 b0: address.0,
                 b1: address.1,
                 b2: address.2,
                 b3: address.3,
-            },
-            port,
-            meaning: means(0, NO_AIM, 0, 0, 0, 0),
-        },
+            };
+            w.port = port;
+            w.address = a;
+            w
+        }
+        Contents::Colour {
+            target,
+            lights,
+            level,
+            colour,
+        } => {
+            let c = colour_out(target, lights, level, colour);
+            w.colour = c;
+            w
+        }
     }
 }
 
@@ -246,23 +349,7 @@ pub fn request_out(r: request::Reading) -> WickRequest
 {
     match r {
         request::Reading::Accepted(x) => accepted_request(x),
-        request::Reading::Refused(k) => WickRequest {
-            refusal: k,
-            sequence: 0,
-            command: 0,
-            a: 0,
-            b: 0,
-            c: 0,
-            d: 0,
-            address: WickAddress {
-                b0: 0,
-                b1: 0,
-                b2: 0,
-                b3: 0,
-            },
-            port: 0,
-            meaning: means(0, NO_AIM, 0, 0, 0, 0),
-        },
+        request::Reading::Refused(k) => contentless(k, 0, 0),
     }
 }
 

@@ -2,3 +2,4 @@
 pub mod Cases
 pub mod Scenes
 pub mod Events
+pub mod Colours

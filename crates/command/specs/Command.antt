@@ -1,5 +1,5 @@
--- Document 01, "Requests and their argument ranges": the known command numbers, and "each other number is unknown".
-use Prim.Native.Nat.{ℕ, zero}
+-- Document 01, "Requests and their argument ranges", with document 02, W-202: the known command numbers, and "each other number is unknown".
+use Prim.Native.Nat.{ℕ}
 use mathlib.Core.Bool.{Bool, true, false}
 use mathlib.Core.List.{List, [], _∷_}
 use lib.Dec.{leb}
@@ -7,10 +7,10 @@ use lib.ListN.{getD}
 use Rattle.refusal.specs.Test.{pick}
 use Rattle.command.specs.declared.Rule.the-variants.{Group, Emit, Bare, Timers, GroupScene, Channel, Filter, Query, Gear, Inhibit, Scene, Level, Lights, Address, Status}
 use Rattle.command.specs.declared.Shape.{Shape}
-use Rattle.command.specs.declared.Shape.the-variants.{Unknown, Basic, Unicast}
+use Rattle.command.specs.declared.Shape.the-variants.{Unknown, Basic, Unicast, Colour}
 
--- What is said of a command: the number of its frame's shape, 0 none, 1 a basic request, 2 the frame of request 40; and the number of its
--- argument rule, 0 for none.
+-- What is said of a command: the number of its frame's shape, 0 none, 1 a basic request, 2 the frame of request 40, 3 a colour request; and the
+-- number of its argument rule, 0 for none.
 pub data Numbers : Type 0 where
   shape-rule : ℕ → ℕ → Numbers
 
@@ -23,7 +23,7 @@ abbrev pub find : ℕ → List Row → Numbers
 find c [] = shape-rule 0 0
 find c (row lo hi s r ∷ rows) = let other = find c rows in pick (leb lo c) (pick (leb c hi) (shape-rule s r) other) other
 
--- the table, in the order of document 01; the one dynamic request at the end
+-- the table, in the order of document 01; the one dynamic request and the colour request at the end
 abbrev pub rows : List Row
 rows =
     -- 01 group label, 1A scenes of a group: "A group 0–15"
@@ -62,6 +62,8 @@ rows =
     ∷ row 0xAB 0xAB 1 15
     -- 40
     ∷ row 0x40 0x40 2 16
+    -- W-202: source 002, "For the DALI Colour command this is 0x0E."
+    ∷ row 0x0E 0x0E 3 17
     ∷ []
 
 -- what the table says of a command
@@ -73,6 +75,7 @@ abbrev pub shapeNo : Shape → ℕ
 shapeNo Unknown = 0
 shapeNo (Basic rule) = 1
 shapeNo Unicast = 2
+shapeNo Colour = 3
 
 abbrev pub ruleNo : Shape → ℕ
 ruleNo Unknown = 0
@@ -92,6 +95,7 @@ ruleNo (Basic Lights) = 13
 ruleNo (Basic Address) = 14
 ruleNo (Basic Status) = 15
 ruleNo Unicast = 16
+ruleNo Colour = 17
 
 abbrev pub numbersOf : Shape → Numbers
 numbersOf x = shape-rule (shapeNo x) (ruleNo x)
@@ -100,7 +104,8 @@ numbersOf x = shape-rule (shapeNo x) (ruleNo x)
 abbrev pub shapes : List Shape
 shapes =
     Unknown ∷ Basic Group ∷ Basic Emit ∷ Basic Bare ∷ Basic Timers ∷ Basic GroupScene ∷ Basic Channel ∷ Basic Filter ∷ Basic Query
-    ∷ Basic Gear ∷ Basic Inhibit ∷ Basic Scene ∷ Basic Level ∷ Basic Lights ∷ Basic Address ∷ Basic Status ∷ Unicast ∷ []
+    ∷ Basic Gear ∷ Basic Inhibit ∷ Basic Scene ∷ Basic Level ∷ Basic Lights ∷ Basic Address ∷ Basic Status ∷ Unicast
+    ∷ Colour ∷ []
 
 abbrev pub shapeBy : Numbers → Shape
 shapeBy (shape-rule s r) = getD shapes r Unknown
@@ -113,6 +118,7 @@ abbrev pub hasFrame : Shape → Bool
 hasFrame Unknown = false
 hasFrame (Basic rule) = true
 hasFrame Unicast = true
+hasFrame Colour = true
 
 abbrev pub isKnown : ℕ → Bool
 isKnown c = hasFrame (shapeOf c)

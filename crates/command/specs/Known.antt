@@ -1,5 +1,5 @@
--- What the table says of every command: the numbers lose nothing, a known command is a byte, and only 40 is dynamic.
-use Prim.Native.Nat.{ℕ, zero, suc, _+_, _≤_, _<_}
+-- What the table says of every command: the numbers lose nothing, a known command is a byte, only 40 is dynamic and only 0E a colour request.
+use Prim.Native.Nat.{ℕ, _≤_, _<_}
 use mathlib.Core.Path.{_≡_, refl, sym, ap, _∙_}
 use mathlib.Core.Bool.{Bool, true, false, _&&_}
 use mathlib.Core.List.{List, [], _∷_}
@@ -11,7 +11,8 @@ use Rattle.refusal.specs.Test.{pick, clash, both-left, both-right}
 use Rattle.command.specs.declared.Rule.{Rule}
 use Rattle.command.specs.declared.Rule.the-variants.{Group, Emit, Bare, Timers, GroupScene, Channel, Filter, Query, Gear, Inhibit, Scene, Level, Lights, Address, Status}
 use Rattle.command.specs.declared.Shape.{Shape}
-use Rattle.command.specs.declared.Shape.the-variants.{Unknown, Basic, Unicast}
+use Rattle.command.specs.declared.Shape.the-variants.{Unknown, Basic, Unicast, Colour}
+use Rattle.command.specs.Count.{countBelow}
 use Rattle.command.specs.Command.{Numbers, shape-rule, Row, row, find, rows, numbersIn, shapeNo, ruleNo, numbersOf, shapes, shapeBy, shapeOf, hasFrame, isKnown, mayAsk, mayWrite}
 
 -- a shape is told by the number of its rule
@@ -33,6 +34,7 @@ rule-back (Basic Lights) = refl
 rule-back (Basic Address) = refl
 rule-back (Basic Status) = refl
 rule-back Unicast = refl
+rule-back Colour = refl
 
 pub rule-one : (x y : Shape) → ruleNo x ≡ ruleNo y → x ≡ y
 rule-one x y e = sym (rule-back x) ∙ ap (λ (n : ℕ). getD shapes n Unknown) e ∙ rule-back y
@@ -81,13 +83,9 @@ shape-numbers c = found (λ c n. numbersOf (shapeBy n) ≡ n) (λ c. refl) (λ l
         let b : ruleNo x ≡ r = eqb-true (ruleNo x) r (both-right (eqb (shapeNo x) s) (eqb (ruleNo x) r) t) in
         rw (a, b)
 
--- "With 40 these are 32 commands; each other number is unknown."
-unfoldable pub knownBelow : ℕ → ℕ
-knownBelow zero = 0
-knownBelow (suc n) = pick (isKnown n) 1 0 + knownBelow n
-
-pub known-count : knownBelow 256 ≡ 32
-unfolding shapeOf knownBelow
+-- "With 40 these are 32 commands; each other number is unknown." With 0E (W-202) they are 33
+pub known-count : countBelow isKnown 256 ≡ 33
+unfolding shapeOf countBelow
 known-count = refl
 
 -- a known command is a byte
@@ -97,19 +95,27 @@ known-byte c =
     found (λ c n. hasFrame (shapeBy n) ≡ true → c < 256) (λ c e. clash (cc)) (λ lo hi s r. ltb hi 256)
     (λ lo hi s r t c l h e. omega (arith, ltb-true hi 256 t)) c rows refl
 
--- the only dynamic request is 40
-abbrev isOnly : ℕ → ℕ → ℕ → Bool
-isOnly lo hi r = pick (eqb (ruleNo (getD shapes r Unknown)) 16) (eqb lo 0x40 && eqb hi 0x40) true
+-- a rule that one line of the table has, and no other, is that of one command
+abbrev isOnly : ℕ → ℕ → ℕ → ℕ → ℕ → Bool
+isOnly rule k lo hi r = pick (eqb (ruleNo (getD shapes r Unknown)) rule) (eqb lo k && eqb hi k) true
 
+only : (rule k : ℕ) (lo hi s r : ℕ) → isOnly rule k lo hi r ≡ true → (c : ℕ) → lo ≤ c → c ≤ hi → ruleNo (getD shapes r Unknown) ≡ rule → c ≡ k
+only rule k lo hi s r t c l h e =
+    let u : eqb lo k && eqb hi k ≡ true = rw (eq-eqb (ruleNo (getD shapes r Unknown)) rule e) at t in
+    omega (arith, eqb-true lo k (both-left (eqb lo k) (eqb hi k) u), eqb-true hi k (both-right (eqb lo k) (eqb hi k) u))
+
+-- the only dynamic request is 40, and the only colour request 0E
 pub unicast-only : (c : ℕ) → shapeOf c ≡ Unicast → c ≡ 0x40
 unfolding shapeOf numbersIn
 unicast-only c e =
-    found (λ c n. ruleNo (shapeBy n) ≡ 16 → c ≡ 0x40) (λ c e. clash (cc)) (λ lo hi s r. isOnly lo hi r) only c rows refl (ap ruleNo e)
-  where
-    only : (lo hi s r : ℕ) → isOnly lo hi r ≡ true → (c : ℕ) → lo ≤ c → c ≤ hi → ruleNo (getD shapes r Unknown) ≡ 16 → c ≡ 0x40
-    only lo hi s r t c l h e =
-        let u : eqb lo 0x40 && eqb hi 0x40 ≡ true = rw (eq-eqb (ruleNo (getD shapes r Unknown)) 16 e) at t in
-        omega (arith, eqb-true lo 0x40 (both-left (eqb lo 0x40) (eqb hi 0x40) u), eqb-true hi 0x40 (both-right (eqb lo 0x40) (eqb hi 0x40) u))
+    found (λ c n. ruleNo (shapeBy n) ≡ 16 → c ≡ 0x40) (λ c e. clash (cc)) (λ lo hi s r. isOnly 16 0x40 lo hi r) (only 16 0x40) c rows refl
+    (ap ruleNo e)
+
+pub colour-only : (c : ℕ) → shapeOf c ≡ Colour → c ≡ 0x0E
+unfolding shapeOf numbersIn
+colour-only c e =
+    found (λ c n. ruleNo (shapeBy n) ≡ 17 → c ≡ 0x0E) (λ c e. clash (cc)) (λ lo hi s r. isOnly 17 0x0E lo hi r) (only 17 0x0E) c rows refl
+    (ap ruleNo e)
 
 -- what may be asked or written is known
 pub may-ask-known : (c : ℕ) → mayAsk c ≡ true → isKnown c ≡ true
@@ -127,6 +133,13 @@ basic-known c rule e = rw e
 pub unicast-known : isKnown 0x40 ≡ true
 unfolding shapeOf numbersIn
 unicast-known = refl
+
+pub colour-shape : shapeOf 0x0E ≡ Colour
+unfolding shapeOf numbersIn
+colour-shape = refl
+
+pub colour-known : isKnown 0x0E ≡ true
+colour-known = rw colour-shape
 
 pub known-may-ask : (c : ℕ) → isKnown c ≡ true → mayAsk c ≡ true
 unfolding mayAsk

@@ -1,7 +1,8 @@
-// The 32 known commands: each with the shape of its frame and the rule of its arguments.
-// Document 01, "Requests and their argument ranges".
+// The 33 known commands: each with the shape of its frame and the rule of its arguments; and the colour types of the colour request.
+// Document 01, "Requests and their argument ranges", and document 02, W-202; source 002, "DALI Colour Request Frame".
 ghost use mathlib.Core.Path.{_≡_};
 ghost use Rattle.command.specs.Command.{numbersOf, numbersIn, isKnown, mayAsk};
+ghost use Rattle.command.specs.Colours.{dataBytes};
 
 // The rule of a basic request's four arguments, named for what they say; crate ranges has the ranges. The commands that have it stand
 // beside it.
@@ -44,17 +45,41 @@ pub const BASIC_BYTES: usize = 8;
 // "the one dynamic request 40"
 pub const UNICAST_COMMAND: u8 = 0x40;
 
-// "Request 40, 11 bytes": no request has more.
+// "Request 40, 11 bytes"
 pub const UNICAST_BYTES: usize = 11;
 
 // "length 06": the length byte of request 40, the fourth of its frame, counts the bytes of port and address.
 pub const UNICAST_LENGTH: u8 = 6;
 
-// The shape of a command's frame: 8 bytes with four arguments, the 11 bytes of request 40, or none.
+// Source 002: "For the DALI Colour command this is 0x0E."
+pub const COLOUR_COMMAND: u8 = 0x0E;
+
+// "XY 0x10", "TC 0x20", "RGBWAF 0x80"; and the bytes of each type's colour data.
+pub const COLOUR_XY: u8 = 0x10;
+
+pub const COLOUR_TC: u8 = 0x20;
+
+pub const COLOUR_RGBWAF: u8 = 0x80;
+
+pub const XY_BYTES: usize = 4;
+
+pub const TC_BYTES: usize = 2;
+
+pub const RGBWAF_BYTES: usize = 6;
+
+// The colour data stands behind lead, sequence, command, address, level and type; behind it stands the sum.
+pub const COLOUR_DATA_AT: usize = 6;
+
+// A colour request of type RGBWAF: no request has more bytes.
+pub const REQUEST_LONGEST: usize = COLOUR_DATA_AT + RGBWAF_BYTES + 1;
+
+// The shape of a command's frame: 8 bytes with four arguments, the 11 bytes of request 40, the bytes of a colour request, which its colour
+// type counts, or none.
 pub enum Shape {
     Unknown,
     Basic(Rule),
     Unicast,
+    Colour,
 }
 
 // The shape and the rule of a command number.
@@ -66,6 +91,7 @@ pub fn shape_of(command: u8) -> Shape
         0x08 => Shape::Basic(Rule::Emit),
         0x09 | 0x0A | 0x0B | 0x1C | 0x1D | 0x41 => Shape::Basic(Rule::Bare),
         0x0C => Shape::Basic(Rule::Timers),
+        0x0E => Shape::Colour,
         0x1B => Shape::Basic(Rule::GroupScene),
         0x20 => Shape::Basic(Rule::Channel),
         0x31 | 0x33 => Shape::Basic(Rule::Filter),
@@ -82,7 +108,7 @@ pub fn shape_of(command: u8) -> Shape
     }
 }
 
-// Whether a command number is one of the 32.
+// Whether a command number is one of the 33.
 pub fn known(command: u8) -> bool
     ensures { λ r. ⌜ r ≡ isKnown command ⌝ }
 {
@@ -91,6 +117,7 @@ pub fn known(command: u8) -> bool
         Shape::Unknown => false,
         Shape::Basic(_) => true,
         Shape::Unicast => true,
+        Shape::Colour => true,
     }
 }
 
@@ -99,4 +126,16 @@ pub fn may_ask(command: u8) -> bool
     ensures { λ r. ⌜ r ≡ mayAsk command ⌝ }
 {
     known(command)
+}
+
+// How many bytes of colour data a colour type has; 0 where the type is not listed.
+pub fn colour_bytes(kind: u8) -> usize
+    ensures { λ r. ⌜ r ≡ dataBytes kind ⌝ }
+{
+    match kind {
+        COLOUR_XY => XY_BYTES,
+        COLOUR_TC => TC_BYTES,
+        COLOUR_RGBWAF => RGBWAF_BYTES,
+        _ => 0,
+    }
 }

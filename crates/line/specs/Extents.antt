@@ -11,7 +11,7 @@ use Rattle.refusal.specs.Test.{pick, clash}
 use Rattle.lead.specs.Lead.{replyData}
 use Rattle.frame.specs.Frame.{byte}
 use Rattle.command.specs.declared.Shape.{Shape}
-use Rattle.command.specs.declared.Shape.the-variants.{Unknown, Basic, Unicast}
+use Rattle.command.specs.declared.Shape.the-variants.{Unknown, Basic, Unicast, Colour}
 use Rattle.command.specs.Command.{shapeOf}
 use Rattle.command.specs.Length.{Told, unknown, fixed, tested, lengthOf, Within, length-within}
 use Rattle.stream.specs.Begins.{Begins, begins-at}
@@ -80,6 +80,7 @@ length-behind : (x : Shape) → Behind 2 (lengthOf x)
 length-behind Unknown = tt
 length-behind (Basic rule) = tt
 length-behind Unicast = omega arith
+length-behind Colour = omega arith
 
 request-tells : (s : List ℕ) → Tells Request s (extentOf Request s)
 request-tells s = go (leb 3 (length s)) refl

@@ -7,6 +7,7 @@ use lib.ListN.{length, take, replicate}
 use native.Mathlib.Omega.{arith}
 use Rattle.lead.specs.Lead.{replyData}
 use Rattle.command.specs.Command.{shapeOf}
+use Rattle.command.specs.Colours.{widthsOf, dataBytes}
 use Rattle.stream.specs.Stream.{Settling, More, Settled}
 use Rattle.stream.specs.Lawful.{Lawful, by-most, in-window as stream·in-window}
 use Rattle.stream.specs.Begins.{Begins, begins-at, Settles, waits, item, lawful-by, waits-by}
@@ -65,7 +66,7 @@ module _ (on : Line) (s : List ℕ) where
 pub lawful : (on : Line) → Lawful (settle on)
 lawful on = lawful-by (settle on) (capOf on) (λ s. settles on s (shows on s))
 
--- "A reader holds at most 67 bytes of a reply line and 10 of a request line."
+-- "A reader holds at most 67 bytes of a reply line and 10 of a request line", and 12 of it since W-202.
 pub waits-few : (on : Line) (s : List ℕ) → settle on s ≡ More → length s ≤ capOf on
 waits-few on = waits-by (settle on) (capOf on) (λ s. settles on s (shows on s))
 
@@ -78,10 +79,14 @@ in-window on = stream·in-window (settle on) (lawful on) (suc (capOf on)) (λ s 
 
 -- and so many it may have to hold
 abbrev pub fullest : Line → List ℕ
-fullest Request = 0x04 ∷ 0 ∷ 0x40 ∷ 6 ∷ replicate 6 0
+fullest Request = 0x04 ∷ 0 ∷ 0x0E ∷ 0 ∷ 0 ∷ 0x80 ∷ replicate 6 0
 fullest Reply = 0xA0 ∷ 0 ∷ replyData ∷ replicate replyData 0
 
+-- 12 and 67
+pub most-held : (capOf Request ≡ 12) × (capOf Reply ≡ 67)
+most-held = (refl, refl)
+
 pub waits-most : (on : Line) → (length (fullest on) ≡ capOf on) × (settle on (fullest on) ≡ More)
-unfolding settle shapeOf
+unfolding settle shapeOf dataBytes widthsOf
 waits-most Request = (refl, refl)
 waits-most Reply = (refl, refl)

@@ -9,6 +9,7 @@ pub mod Laws
 pub mod Numbers
 pub mod Finds
 pub mod Worked
+pub mod Colours
 -- what only serves proofs
 pub mod Extents
 pub mod Cases

@@ -8,10 +8,11 @@ use lib.Dec.{leb}
 use Rattle.refusal.specs.Test.{pick}
 use Rattle.lead.specs.Lead.{isRequest, isReply, replyLeast, replyData}
 use Rattle.frame.specs.Frame.{byte}
+use Rattle.target.specs.Target.{isLighting}
 use Rattle.command.specs.declared.Shape.{Shape}
-use Rattle.command.specs.declared.Shape.the-variants.{Unknown, Basic, Unicast}
+use Rattle.command.specs.declared.Shape.the-variants.{Unknown, Basic, Unicast, Colour}
 use Rattle.command.specs.Command.{shapeOf}
-use Rattle.command.specs.Length.{Told, unknown, fixed, tested, lengthOf, basicBytes, unicastBytes}
+use Rattle.command.specs.Length.{Told, unknown, fixed, tested, lengthOf, basicBytes, mostBytes}
 use Rattle.ranges.specs.Arguments.{fits}
 use Rattle.line.specs.declared.Line.{Line}
 use Rattle.line.specs.declared.Line.the-variants.{Request, Reply}
@@ -32,7 +33,8 @@ abbrev pub upTo : ℕ → List ℕ → Extent → Extent
 upTo n s x = pick (leb n (length s)) x Wait
 
 -- "third byte an unknown command: item 3, one byte. Request 40 with fourth byte not 6: item 4, one byte." "third byte over 64: item 4,
--- one byte." Beside an item stands how many bytes tell it.
+-- one byte." Document 02, W-202, of a colour request: "an unlisted colour type is 4", "the items follow the same numbers". Beside an item
+-- stands how many bytes tell it.
 abbrev pub lengthExtent : Told → List ℕ → Extent
 lengthExtent unknown s = Bad 3 3
 lengthExtent (fixed n) s = Frame n
@@ -48,11 +50,13 @@ abbrev pub extentOf : Line → List ℕ → Extent
 extentOf Request s = requestExtent s
 extentOf Reply s = replyExtent s
 
--- "Sum right but an argument outside the table": request 40 takes any port and address, and a reply has no arguments
+-- "Sum right but an argument outside the table": request 40 takes any port and address, of a colour request "its address is a lighting
+-- target, its other values any", and a reply has no arguments
 abbrev pub shapeInTable : Shape → List ℕ → Bool
 shapeInTable Unknown f = true
 shapeInTable (Basic rule) f = fits rule (byte 3 f) (byte 4 f) (byte 5 f) (byte 6 f)
 shapeInTable Unicast f = true
+shapeInTable Colour f = isLighting (byte 3 f)
 
 abbrev pub requestInTable : List ℕ → Bool
 requestInTable f = shapeInTable (shapeOf (byte 2 f)) f
@@ -61,16 +65,17 @@ abbrev pub inTable : Line → List ℕ → Bool
 inTable Request f = requestInTable f
 inTable Reply f = true
 
--- the least and the greatest length of a frame: "Basic request, 8 bytes", "Request 40, 11 bytes", "n is 0 to 64"
+-- the least and the greatest length of a frame: "Basic request, 8 bytes", the 13 bytes of a colour request of type RGBWAF,
+-- "n is 0 to 64"
 abbrev pub leastOf : Line → ℕ
 leastOf Request = basicBytes
 leastOf Reply = replyLeast
 
 abbrev pub longestOf : Line → ℕ
-longestOf Request = unicastBytes
+longestOf Request = mostBytes
 longestOf Reply = replyData + replyLeast
 
--- "A reader holds at most 67 bytes of a reply line and 10 of a request line": one less than the longest frame has
+-- "A reader holds at most 67 bytes of a reply line and 10 of a request line", and 12 of it since W-202: one less than the longest frame has
 abbrev pub capOf : Line → ℕ
 capOf Request = longestOf Request - 1
 capOf Reply = longestOf Reply - 1

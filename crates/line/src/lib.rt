@@ -1,10 +1,10 @@
 // The request line and the reply line: what the bytes at a position of a line say. One rule serves both lines; a line is its
 // lead, what its first bytes tell of a frame's length, and the table of its arguments. It leans on the leads, the sum, the
-// commands, their ranges and the words of a stream (crate stream). Document 01, "Reading a line".
+// commands, their ranges and the words of a stream (crate stream). Document 01, "Reading a line"; document 02, W-202.
 ghost use Prim.Native.Nat.{_≤_};
 ghost use mathlib.Core.Path.{_≡_};
 ghost use lib.ListN.{length};
-ghost use Rattle.command.specs.declared.Shape.the-variants.{Unicast};
+ghost use Rattle.command.specs.declared.Shape.the-variants.{Unicast, Colour};
 ghost use Rattle.command.specs.Length.{lengthOf};
 ghost use Rattle.line.specs.Line.{isLead, lengthExtent, requestExtent, replyExtent, extentOf};
 ghost use Rattle.line.specs.Line.{inTable, requestInTable, capOf, leastOf};
@@ -19,8 +19,8 @@ pub enum Line {
     Reply,
 }
 
-// The longest frame of each line: that of request 40, and a reply with the most data.
-pub const REQUEST_LONGEST: usize = command::UNICAST_BYTES;
+// The longest frame of each line: a colour request of type RGBWAF, and a reply with the most data.
+pub const REQUEST_LONGEST: usize = command::REQUEST_LONGEST;
 
 pub const REPLY_LONGEST: usize = lead::REPLY_DATA + lead::REPLY_LEAST;
 
@@ -52,7 +52,7 @@ fn leads(line: Line, b: u8) -> bool
     }
 }
 
-// The length of a request is told by its command, and by the length byte of request 40.
+// The length of a request is told by its command, and by the length byte of request 40 or the type of a colour request.
 fn request_extent(s: &[u8]) -> Extent
     ensures { λ r. ⌜ r ≡ requestExtent (now (s .entry)) ⌝ }
 {
@@ -64,6 +64,7 @@ fn request_extent(s: &[u8]) -> Extent
         Shape::Unknown => Extent::Bad(3, 3),
         Shape::Basic(_) => Extent::Frame(command::BASIC_BYTES),
         Shape::Unicast => unicast_extent(s),
+        Shape::Colour => colour_extent(s),
     }
 }
 
@@ -77,6 +78,19 @@ fn unicast_extent(s: &[u8]) -> Extent
         return Extent::Bad(4, 4);
     }
     Extent::Frame(command::UNICAST_BYTES)
+}
+
+fn colour_extent(s: &[u8]) -> Extent
+    ensures { λ r. ⌜ r ≡ lengthExtent (lengthOf Colour) (now (s .entry)) ⌝ }
+{
+    if s.len() < command::COLOUR_DATA_AT {
+        return Extent::Wait;
+    }
+    let n = command::colour_bytes(s[5]);
+    if n == 0 {
+        return Extent::Bad(4, 6);
+    }
+    Extent::Frame(command::COLOUR_DATA_AT + n + 1)
 }
 
 // The length of a reply is told by its third byte.
@@ -122,6 +136,7 @@ fn arguments_fit(f: &[u8]) -> bool
         Shape::Unknown => true,
         Shape::Basic(rule) => ranges::fits(rule, f[3], f[4], f[5], f[6]),
         Shape::Unicast => true,
+        Shape::Colour => target::is_lighting(f[3]),
     }
 }
 

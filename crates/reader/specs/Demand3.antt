@@ -69,7 +69,7 @@ pub record Demand3 (on : Line) (s : List ℕ) (ps : List (List ℕ)) : Type 0 wh
   -- each call takes and gives what document 01 says, whatever state it is handed
   pub feeds : (h : Held) (p : List ℕ) (r : Given) → Feeds on h p r → FeedPromise on h p r
   pub closes : (h : Held) (r : Given) → Closes on h r → ClosePromise on h r
-  -- no reader that calls lead to from a fresh one holds more than 67 bytes of a reply line, 10 of a request line; and one holds as many
+  -- no reader that calls lead to from a fresh one holds more than 67 bytes of a reply line, 12 of a request line; and one holds as many
   pub few : (h : Held) → Reached on h → h .len ≤ capOf on
   pub most : (h : Held) × Reached on h × (h .len ≡ capOf on)
   -- feeding each part until "nothing yet", and then closing until "empty", ends

@@ -33,7 +33,7 @@ pub record FeedPromise (on : Line) (h : Held) (p : List ℕ) (r : Given) : Type 
   pub fits : r .taken ≤ length p
   pub room : r .count ≤ itemRoom
   pub onwards : (j : ℕ) (i : Item) (g : List ℕ) → saidFed on r ≡ found j i g → length g + (length p - j) < length (heldOf on h) + length p
-  -- "A reader holds at most 67 bytes of a reply line and 10 of a request line."
+  -- "A reader holds at most 67 bytes of a reply line and 10 of a request line", and 12 of it since W-202.
   pub few : r .held .len ≤ capOf on
   -- "One handed in that claims more is taken as a fresh reader"
   pub claims : capOf on < h .len → Feeds on (hold []) p r
@@ -48,7 +48,7 @@ pub record ClosePromise (on : Line) (h : Held) (r : Given) : Type 0 where
   pub none : r .taken ≡ 0
   pub room : r .count ≤ itemRoom
   pub onwards : (i : Item) (g : List ℕ) → saidClosed on r ≡ last i g → length g < length (heldOf on h)
-  -- "A reader holds at most 67 bytes of a reply line and 10 of a request line."
+  -- "A reader holds at most 67 bytes of a reply line and 10 of a request line", and 12 of it since W-202.
   pub few : r .held .len ≤ capOf on
   -- "One handed in that claims more is taken as a fresh reader"
   pub claims : capOf on < h .len → Closes on (hold []) r

@@ -5,7 +5,7 @@
 // - where nothing is held, the bytes that it takes, once: those of the item into the answer, the others into the state;
 // - where the bytes held settle the item, these, once;
 // - where they do not, these and of the part so many that the line's most held bytes and one are there (68 on a reply line,
-//   11 on a request line), or as many as there are, once into a window; and from there the bytes then read or held, once.
+//   13 on a request line), or as many as there are, once into a window; and from there the bytes then read or held, once.
 // A state and an answer hold arrays (67 and 68 bytes), which go by value and are zero behind what they hold.
 ghost use Prim.Native.Nat.{_≤_};
 ghost use mathlib.Core.Path.{_≡_};

@@ -25,6 +25,12 @@ fn request_again(r: Request, out: &mut [u8]) -> Wrote
             meaning: _,
         } => writers::basic(r.sequence, r.command, arguments, out),
         Contents::Unicast { port, address } => writers::unicast(r.sequence, port, address, out),
+        Contents::Colour {
+            target,
+            lights: _,
+            level,
+            colour,
+        } => writers::colour(r.sequence, target, level, colour, out),
     }
 }
 

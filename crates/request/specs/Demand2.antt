@@ -1,15 +1,16 @@
 -- Demand 2 for requests (crate frame says what it is).
-use Prim.Native.Nat.{ℕ, _/_, _%_, _<_}
+use Prim.Native.Nat.{ℕ, _-_, _/_, _%_, _<_}
 use mathlib.Core.Path.{_≡_, refl, sym, ap, _∙_}
 use mathlib.Core.Bool.{true}
 use mathlib.Core.List.{List, [], _∷_}
-use lib.ListN.{length}
+use lib.ListN.{length, take, drop, length-append}
+use lib.Seq.{take-append-seam}
 use lib.Dec.{leb, ltb, eqb}
 use borrow.Author.Tests.{eqb-true, eq-eqb, ltb-true, lt-ltb}
 use native.Mathlib.Omega.{arith}
-use Rattle.refusal.specs.Test.{clash}
+use Rattle.refusal.specs.Test.{clash, both-left, both-right}
 use Rattle.refusal.specs.Answer.{full, demand-elim, full-one}
-use Rattle.sum.specs.Bytes.{Bytes, bytes-none, bytes-cons, bytes-head, bytes-tail}
+use Rattle.sum.specs.Bytes.{Bytes, bytes-none, bytes-cons, bytes-head, bytes-tail, bytes-take, bytes-drop}
 use Rattle.sum.specs.Sum.{sumOf}
 use Rattle.frame.specs.Demand2 as family
 use Rattle.frame.specs.Demand2.{Demand2, demand2}
@@ -21,16 +22,25 @@ use Rattle.order.specs.Big.{bigBytes}
 use Rattle.order.specs.Numbers.{number-of-bytes, bytes-of-number, number-below}
 use Rattle.command.specs.declared.Rule.{Rule}
 use Rattle.command.specs.declared.Shape.{Shape}
-use Rattle.command.specs.declared.Shape.the-variants.{Unknown, Basic, Unicast}
+use Rattle.command.specs.declared.Shape.the-variants.{Unknown, Basic, Unicast, Colour}
 use Rattle.command.specs.Command.{shapeOf, numbersIn, mayWrite}
-use Rattle.command.specs.Known.{unicast-only, basic-known, unicast-known, known-may-write}
+use Rattle.command.specs.Known.{unicast-only, colour-only, colour-shape, basic-known, unicast-known, colour-known, known-may-write}
+use Rattle.command.specs.Colours.{widthsOf, dataBytes, isType}
+use Rattle.command.specs.Listed.{type-bytes}
+use Rattle.command.specs.Length.{colourBytes}
+use Rattle.target.specs.declared.LineTarget.{LineTarget}
+use Rattle.target.specs.Target.{isLighting}
+use Rattle.colour.specs.Colour.{Hue, hue, typeOf, fitting, isColour, dataIn, hueIn, saidColour}
+use Rattle.colour.specs.declared.Colour as Colour·enum
+use Rattle.colour.specs.Laws.{laid-bytes, data-length, hue-back, data-back, hue-fits, Sized, said-colour}
 use Rattle.ranges.specs.Arguments.{fits}
 use Rattle.meaning.specs.Meaning.{pair, meaningOf}
-use Rattle.request.specs.Layout.{Fields, basic, unicast, InRange, basic-fits, unicast-fits, commandIn, Writable, head, layout}
+use Rattle.request.specs.Layout.{Fields, basic, unicast, colour, InRange, basic-fits, unicast-fits, colour-fits, commandIn, Writable, head, layout}
 use Rattle.request.specs.Said.{Heard, fieldsOf}
-use Rattle.request.specs.Reading.{basicHeard, unicastHeard, readBasic, readUnicast, readShape, readRequest}
+use Rattle.request.specs.Reading.{basicHeard, unicastHeard, colourHeard, readBasic, readUnicast, colourData, readColoured, readShape, readRequest}
 use Rattle.request.specs.Reads.{basic-accepts, shape-read}
-use Rattle.request.specs.Writing.{basicOf, writerOf, frameOf}
+use Rattle.request.specs.Coloured.{part-length, colour-accepts}
+use Rattle.request.specs.Writing.{basicOf, colourFrame, writerOf, frameOf}
 
 -- the datagram is accepted, and gives these fields
 abbrev Reads : List ℕ → Fields → Type 0
@@ -64,6 +74,35 @@ unicast-reads s port i j k l p =
       fields = refl;
     }
 
+-- the frame of a colour request has the bytes of its type, and its colour data is that of its colour
+colour-length : (s a l k : ℕ) (vs : List ℕ) → fitting (widthsOf k) vs ≡ true → length (layout (colour s a l (hue k vs))) ≡ colourBytes k
+colour-length s a l k vs f = simp length-append (omega (arith, data-length k vs f))
+
+colour-part : (s a l k : ℕ) (vs : List ℕ) → fitting (widthsOf k) vs ≡ true
+    → colourData (layout (colour s a l (hue k vs))) ≡ dataIn (hue k vs)
+colour-part s a l k vs f =
+    let x : List ℕ = layout (colour s a l (hue k vs)) in
+    let n : length x - 1 - 6 ≡ length (dataIn (hue k vs)) = omega (arith, colour-length s a l k vs f, data-length k vs f) in
+    rw n (take-append-seam (dataIn (hue k vs)) (sumOf (head (colour s a l (hue k vs))) ∷ []))
+
+-- ONCE OVER THE COLOUR TYPES
+colour-reads : (s a l : ℕ) (h : Hue) → isLighting a ≡ true → isColour h ≡ true → Reads (layout (colour s a l h)) (colour s a l h)
+colour-reads s a l (hue k vs) g c =
+    let x : List ℕ = layout (colour s a l (hue k vs)) in
+    let t : isType k ≡ true = both-left (isType k) (fitting (widthsOf k) vs) c in
+    let f : fitting (widthsOf k) vs ≡ true = both-right (isType k) (fitting (widthsOf k) vs) c in
+    let n : length x ≡ colourBytes k = colour-length s a l k vs f in
+    let u = type-bytes k t in
+    record {
+      reading = colourHeard s 0x0E a l (hue k vs);
+      accepted =
+          sym
+          (shape-read x Colour (full (colourHeard s 0x0E a l (hue k vs))) (omega (arith, n, u .1)) refl (sym colour-shape)
+          (colour-accepts x (hue k vs) t n (sealed-sum (head (colour s a l (hue k vs)))) g
+          (ap (hueIn k) (colour-part s a l k vs f) ∙ hue-back k vs f)));
+      fields = refl;
+    }
+
 -- what was written is read as its fields
 read-written : (f : Fields) (x : List ℕ) → frameOf f ≡ full x → Reads x f
 read-written (basic s k a b c d) x e = go (shapeOf k) refl e
@@ -71,6 +110,7 @@ read-written (basic s k a b c d) x e = go (shapeOf k) refl e
     go : (h : Shape) → shapeOf k ≡ h → basicOf h s k (record { a = a; b = b; c = c; d = d }) ≡ full x → Reads x (basic s k a b c d)
     go Unknown h e = clash (cc)
     go Unicast h e = clash (cc)
+    go Colour h e = clash (cc)
     go (Basic rule) h e =
         demand-elim (fits rule a b c d) 7
         (λ t q.
@@ -83,6 +123,14 @@ read-written (unicast s port i j k l) x e =
     let o : layout (unicast s port i j k l) ≡ x = full-one q in
     rw o at (unicast-reads s port i j k l (ltb-true port 65536 t)))
     e
+read-written (colour s a l (hue k vs)) x e =
+    demand-elim (isType k) 4
+    (λ t. demand-elim (isColour (hue k vs)) 7
+    (λ c. demand-elim (isLighting a) 7
+    (λ g q.
+    let o : layout (colour s a l (hue k vs)) ≡ x = full-one q in
+    rw o at (colour-reads s a l (hue k vs) g c))))
+    e
 
 -- what may be written is in range, and its frame is its layout
 may-written : (f : Fields) → Writable f → frameOf f ≡ full (layout f)
@@ -91,6 +139,7 @@ may-written f w = go f (w .0)
     go : (f : Fields) → InRange f → frameOf f ≡ full (layout f)
     go (basic s k a b c d) (basic-fits rule h t z) = rw (h, t)
     go (unicast s port i j k l) (unicast-fits p z) = rw (lt-ltb port 65536 p)
+    go (colour s a l (hue k vs)) (colour-fits g c z) = rw (both-left (isType k) (fitting (widthsOf k) vs) c, both-right (isType k) (fitting (widthsOf k) vs) c, g)
 
 -- what a reading tells of its datagram
 basic-frame : (d : List ℕ) (rule : Rule) (r : Heard) → Bytes d → byte 0 d ≡ 0x04 → shapeOf (byte 2 d) ≡ Basic rule
@@ -134,6 +183,33 @@ unicast-frame d r bs lead h =
         → _≡_ {A = List ℕ} (a ∷ s ∷ b ∷ c ∷ h ∷ l ∷ i ∷ j ∷ k ∷ m ∷ []) (a′ ∷ s ∷ b′ ∷ c′ ∷ h′ ∷ l′ ∷ i ∷ j ∷ k ∷ m ∷ [])
     same-head p q r s t = cc
 
+colour-frame : (d : List ℕ) (r : Heard) → Bytes d → byte 0 d ≡ 0x04 → shapeOf (byte 2 d) ≡ Colour → readColoured d ≡ full r
+    → InRange (fieldsOf r) × (d ≡ layout (fieldsOf r))
+unfolding readColoured
+colour-frame d r bs lead h =
+    demand-elim (isType (byte 5 d)) 4
+    (λ t. demand-elim (eqb (length d) (colourBytes (byte 5 d))) 5
+    (λ m. demand-elim (eqb (sumOf d) 0) 6
+    (λ z. demand-elim (isLighting (byte 3 d)) 7
+    (λ g e.
+    let w = bs .byte in
+    let k : ℕ = byte 5 d in
+    let x : Hue = hueIn k (colourData d) in
+    let l : length d ≡ colourBytes k = eqb-true (length d) (colourBytes k) m in
+    let n : length d - 1 - 6 ≡ dataBytes k = omega (arith, l) in
+    let p : length (colourData d) ≡ dataBytes k = omega (arith, part-length d (omega (arith, l)), l) in
+    let part : Bytes (colourData d) = bytes-take (length d - 1 - 6) (drop 6 d) (bytes-drop 6 d bs) in
+    let o : d ≡ layout (colour (byte 1 d) (byte 3 d) (byte 4 d) x) =
+    opened 6 (dataBytes k) d l (eqb-true (sumOf d) 0 z)
+    ∙ ap sealed (same-head lead (colour-only (byte 2 d) h) (ap (λ (m : ℕ). take m (drop 6 d)) (sym n) ∙ sym (data-back k (colourData d) part p))) in
+    let c : isColour x ≡ true = rw (t, hue-fits k (colourData d) part p) in
+    let b : Bytes (byte 1 d ∷ byte 3 d ∷ byte 4 d ∷ []) = bytes-cons (w 1) (bytes-cons (w 3) (bytes-cons (w 4) bytes-none)) in
+    rw (← full-one e) (colour-fits g c b, o)))))
+  where
+    same-head : {a s b i j k a′ b′ : ℕ} {p q : List ℕ} → a ≡ a′ → b ≡ b′ → p ≡ q
+        → _≡_ {A = List ℕ} (a ∷ s ∷ b ∷ i ∷ j ∷ k ∷ p) (a′ ∷ s ∷ b′ ∷ i ∷ j ∷ k ∷ q)
+    same-head e f g = cc
+
 -- an accepted datagram is a frame: the fields that it gives are in range, and it is their layout
 accepted-frame : (d : List ℕ) (r : Heard) → Bytes d → readRequest d ≡ full r → InRange (fieldsOf r) × (d ≡ layout (fieldsOf r))
 unfolding readRequest
@@ -147,8 +223,19 @@ accepted-frame d r bs =
     go lead Unknown h e = clash (cc)
     go lead (Basic rule) h e = basic-frame d rule r bs lead h e
     go lead Unicast h e = unicast-frame d r bs lead h e
+    go lead Colour h e = colour-frame d r bs lead h e
 
 -- each frame is a run of bytes
+colour-head : (s a l : ℕ) (h : Hue) → isColour h ≡ true → Bytes (s ∷ a ∷ l ∷ []) → Bytes (head (colour s a l h))
+colour-head s a l (hue k vs) c b =
+    let u = type-bytes k (both-left (isType k) (fitting (widthsOf k) vs) c) in
+    bytes-cons (omega arith)
+    (bytes-cons (bytes-head b)
+    (bytes-cons (omega arith)
+    (bytes-cons (bytes-head (bytes-tail b))
+    (bytes-cons (bytes-head (bytes-tail (bytes-tail b)))
+    (bytes-cons (u .0) (laid-bytes (widthsOf k) vs))))))
+
 head-bytes : {f : Fields} → InRange f → Bytes (head f)
 head-bytes (basic-fits rule h t b) = bytes-cons (omega arith) b
 head-bytes (unicast-fits {s} {port} {i} {j} {k} {l} p b) =
@@ -158,6 +245,7 @@ head-bytes (unicast-fits {s} {port} {i} {j} {k} {l} p b) =
     (bytes-cons (omega arith)
     (bytes-cons {b = port / 256 % 256} (omega arith)
     (bytes-cons {b = port % 256} (omega arith) (bytes-tail b))))))
+head-bytes (colour-fits {s} {a} {l} {h} g c b) = colour-head s a l h c b
 
 frame-bytes : (f : Fields) → InRange f → Bytes (layout f)
 frame-bytes f i = sealed-bytes (head-bytes i)
@@ -169,6 +257,7 @@ frame-sum f i = sealed-sum (head f)
 frame-accepted : (f : Fields) → InRange f → Reads (layout f) f
 frame-accepted (basic s k a b c d) (basic-fits rule h t z) = basic-reads rule s k a b c d h t
 frame-accepted (unicast s port i j k l) (unicast-fits p z) = unicast-reads s port i j k l p
+frame-accepted (colour s a l h) (colour-fits g c z) = colour-reads s a l h g c
 
 -- DEMAND 2 FOR REQUESTS
 pub requests : Demand2 InRange layout readRequest (λ r d. fieldsOf r) Writable frameOf
@@ -183,6 +272,7 @@ in-range-writable f i = (i, go f i)
     go : (f : Fields) → InRange f → mayWrite (commandIn f) ≡ true
     go (basic s k a b c d) (basic-fits rule h t z) = known-may-write k (basic-known k rule h)
     go (unicast s port i j k l) (unicast-fits p z) = known-may-write 0x40 unicast-known
+    go (colour s a l h) (colour-fits g c z) = known-may-write 0x0E colour-known
 
 -- so a relay hands on what it accepts: the writer's frame for what was read is the datagram itself
 pub relay-frame : (d : List ℕ) (r : Heard) → Bytes d → readRequest d ≡ full r → writerOf (fieldsOf r) ≡ full d
@@ -193,7 +283,16 @@ relay-frame d r bs e =
     asked : (f : Fields) → frameOf f ≡ full d → writerOf f ≡ full d
     asked (basic s k a b c d) q = q
     asked (unicast s port i j k l) q = demand-elim (ltb port 65536) 7 (λ t q. q) q
+    asked (colour s a l h) q = demand-elim (isType (typeOf h)) 4 (λ t. demand-elim (isColour h) 7 (λ c q. q)) q
 
 pub relays : (d : List ℕ) (r : Heard) {out p : List ℕ} {w : Wrote} → Bytes d → readRequest d ≡ full r
     → Written (writerOf (fieldsOf r)) out w p → Written (relayed (readRequest d) d) out w p
 relays d r bs e w = rw e (rw (relay-frame d r bs e) at w)
+
+-- in writing no colour is refused for its type or its values: what is handed over is a colour
+pub colour-handed : (s : ℕ) (t : LineTarget) (l : ℕ) (c : Colour·enum.Colour) → Sized c
+    → frameOf (colour s (t .0) l (saidColour c)) ≡ colourFrame s t l (saidColour c)
+colour-handed s t l c h = go (saidColour c) (said-colour c h)
+  where
+    go : (x : Hue) → isColour x ≡ true → frameOf (colour s (t .0) l x) ≡ colourFrame s t l x
+    go (hue k vs) e = rw (both-left (isType k) (fitting (widthsOf k) vs) e, both-right (isType k) (fitting (widthsOf k) vs) e)

@@ -1,6 +1,7 @@
--- Document 01, "Frames": the fields of a request, document 01's ranges for them, and the published layouts.
+-- Document 01, "Frames", and document 02, W-202: the fields of a request, the documents' ranges for them, and the published layouts.
 --   Basic request, 8 bytes: 04, sequence, command, four argument bytes (A, B, C, D), sum.
 --   Request 40, 11 bytes: 04, sequence, 40, length 06, port high, port low, four IPv4 bytes, sum.
+--   Colour request, 9, 11 or 13 bytes: 04, sequence, 0E, address, level, colour type, the bytes of its channels, sum.
 use Prim.Native.Nat.{ℕ, _<_}
 use mathlib.Core.Path.{_≡_}
 use mathlib.Core.Bool.{true}
@@ -9,27 +10,33 @@ use Rattle.sum.specs.Bytes.{Bytes}
 use Rattle.lead.specs.Lead.{requestLead}
 use Rattle.frame.specs.Frame.{sealed}
 use Rattle.order.specs.Big.{bigBytes}
+use Rattle.target.specs.Target.{isLighting}
 use Rattle.command.specs.declared.Rule.{Rule}
 use Rattle.command.specs.declared.Shape.the-variants.{Basic}
 use Rattle.command.specs.Command.{shapeOf, mayWrite}
+use Rattle.command.specs.Length.{unicastCommand, unicastLength, colourCommand}
+use Rattle.colour.specs.Colour.{Hue, typeOf, isColour, dataIn}
 use Rattle.ranges.specs.Arguments.{fits}
-use Rattle.command.specs.Length.{unicastCommand, unicastLength}
 
--- a request's fields: sequence, command, A, B, C, D; or sequence, port and the four bytes of an address
+-- a request's fields: sequence, command, A, B, C, D; or sequence, port and the four bytes of an address; or sequence, address, level and colour
 pub data Fields : Type 0 where
   basic : ℕ → ℕ → ℕ → ℕ → ℕ → ℕ → Fields
   unicast : ℕ → ℕ → ℕ → ℕ → ℕ → ℕ → Fields
+  colour : ℕ → ℕ → ℕ → Hue → Fields
 
--- the ranges: a basic request's command has a rule, and its arguments keep it; request 40 takes any port and address
+-- the ranges: a basic request's command has a rule, and its arguments keep it; request 40 takes any port and address;
+-- of a colour request "its address is a lighting target, its other values any", and its colour is one of a listed type
 pub data InRange : Fields → Type 0 where
   basic-fits : {s k a b c d : ℕ} (rule : Rule) → shapeOf k ≡ Basic rule → fits rule a b c d ≡ true → Bytes (s ∷ k ∷ a ∷ b ∷ c ∷ d ∷ [])
       → InRange (basic s k a b c d)
   unicast-fits : {s port i j k l : ℕ} → port < 65536 → Bytes (s ∷ i ∷ j ∷ k ∷ l ∷ []) → InRange (unicast s port i j k l)
+  colour-fits : {s a l : ℕ} {h : Hue} → isLighting a ≡ true → isColour h ≡ true → Bytes (s ∷ a ∷ l ∷ []) → InRange (colour s a l h)
 
 -- the command of some fields
 abbrev pub commandIn : Fields → ℕ
 commandIn (basic s k a b c d) = k
 commandIn (unicast s port i j k l) = unicastCommand
+commandIn (colour s a l h) = colourCommand
 
 -- what may be written: what is in range and has a command that may be
 abbrev pub Writable : Fields → Type 0
@@ -39,6 +46,7 @@ Writable f = InRange f × (mayWrite (commandIn f) ≡ true)
 abbrev pub head : Fields → List ℕ
 head (basic s k a b c d) = requestLead ∷ s ∷ k ∷ a ∷ b ∷ c ∷ d ∷ []
 head (unicast s port i j k l) = requestLead ∷ s ∷ unicastCommand ∷ unicastLength ∷ bigBytes 2 port ++ (i ∷ j ∷ k ∷ l ∷ [])
+head (colour s a l h) = requestLead ∷ s ∷ colourCommand ∷ a ∷ l ∷ typeOf h ∷ dataIn h
 
 -- a request's datagram
 abbrev pub layout : Fields → List ℕ

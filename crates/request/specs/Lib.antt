@@ -8,3 +8,4 @@ pub mod One
 pub mod Demand2
 -- what only serves proofs
 pub mod Reads
+pub mod Coloured

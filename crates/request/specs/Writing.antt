@@ -1,20 +1,25 @@
--- The frame that a writer of requests is to write, or the refusal that it is to give: 3, then 7; 8 comes with the buffer (crate frame).
+-- The frame that a writer of requests is to write, or the refusal that it is to give: 3, then 4, then 7; 8 comes with the buffer (crate frame).
 use Prim.Native.Nat.{ℕ}
 use mathlib.Core.List.{List}
 use lib.Dec.{ltb}
 use Rattle.refusal.specs.Answer.{Answer, refused, full, demand}
+use Rattle.target.specs.declared.LineTarget.{LineTarget}
+use Rattle.target.specs.Target.{isLighting}
 use Rattle.command.specs.declared.Shape.{Shape}
-use Rattle.command.specs.declared.Shape.the-variants.{Unknown, Basic, Unicast}
+use Rattle.command.specs.declared.Shape.the-variants.{Unknown, Basic, Unicast, Colour}
 use Rattle.command.specs.Command.{shapeOf}
+use Rattle.command.specs.Colours.{isType}
+use Rattle.colour.specs.Colour.{Hue, typeOf, isColour}
 use Rattle.ranges.specs.Arguments.{fits}
 use Rattle.meaning.specs.declared.Arguments.{Arguments}
-use Rattle.request.specs.Layout.{Fields, basic, unicast, layout}
+use Rattle.request.specs.Layout.{Fields, basic, unicast, colour, layout}
 use Rattle.request.specs.declared.Ipv4.{Ipv4}
 
--- "unknown command; also 40 given to the writer of basic requests"
+-- "unknown command; also 40 given to the writer of basic requests", and 0E: "its command given to the writer of basic requests is 3"
 abbrev pub basicOf : Shape → ℕ → ℕ → Arguments → Answer (List ℕ)
 basicOf Unknown s k x = refused 3
 basicOf Unicast s k x = refused 3
+basicOf Colour s k x = refused 3
 basicOf (Basic rule) s k x =
     demand (fits rule (x .a) (x .b) (x .c) (x .d)) 7
     (full (layout (basic s k (x .a) (x .b) (x .c) (x .d))))
@@ -26,12 +31,19 @@ basicFrame s k x = basicOf (shapeOf k) s k x
 abbrev pub unicastFrame : ℕ → ℕ → Ipv4 → Answer (List ℕ)
 unicastFrame s port ip = full (layout (unicast s port (ip .0) (ip .1) (ip .2) (ip .3)))
 
+-- "its address is a lighting target, its other values any"
+abbrev pub colourFrame : ℕ → LineTarget → ℕ → Hue → Answer (List ℕ)
+colourFrame s t l h = demand (isLighting (t .0)) 7 (full (layout (colour s (t .0) l h)))
+
 -- the writer for some fields
 abbrev pub writerOf : Fields → Answer (List ℕ)
 writerOf (basic s k a b c d) = basicFrame s k (record { a = a; b = b; c = c; d = d })
 writerOf (unicast s port i j k l) = unicastFrame s port (record { 0 = i; 1 = j; 2 = k; 3 = l })
+writerOf (colour s a l h) = colourFrame s (record { 0 = a }) l h
 
--- what may be handed to it: a port has two bytes by its type
+-- what may be handed to it: a port has two bytes by its type. A colour has a listed type and values that fit by its own, so that what is
+-- refused here with 4, "an unlisted colour type", or for its values cannot be handed over (`colour-handed` in Demand2.antt)
 abbrev pub frameOf : Fields → Answer (List ℕ)
 frameOf (basic s k a b c d) = writerOf (basic s k a b c d)
 frameOf (unicast s port i j k l) = demand (ltb port 65536) 7 (writerOf (unicast s port i j k l))
+frameOf (colour s a l h) = demand (isType (typeOf h)) 4 (demand (isColour h) 7 (writerOf (colour s a l h)))

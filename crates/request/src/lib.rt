@@ -1,20 +1,26 @@
-// Requests as single datagrams, read (crate writers writes them). Basic requests and the one dynamic request, 40. It
-// leans on crate command for shapes and lengths, on crate ranges for the ranges, and on crate meaning for what arguments say.
-// Document 01, "Frames" and "Requests and their argument ranges"; source 002, "Basic Request Frame" and "TPI Dynamic Subframe".
+// Requests as single datagrams, read (crate writers writes them). Basic requests, the one dynamic request, 40, and colour requests. It
+// leans on crate command for shapes and lengths, on crate ranges for the ranges, on crate meaning for what arguments say, and on crate
+// colour for colours. Document 01, "Frames" and "Requests and their argument ranges"; document 02, W-202; source 002, "Basic Request
+// Frame", "TPI Dynamic Subframe" and "DALI Colour Request Frame".
 ghost use mathlib.Core.Path.{_≡_};
 ghost use Prim.Native.Nat.{_≤_};
 ghost use lib.ListN.{length};
+ghost use Rattle.frame.specs.Frame.{byte};
+ghost use Rattle.colour.specs.Colour.{saidColour, hueIn};
 ghost use Rattle.request.specs.Said.{said};
-ghost use Rattle.request.specs.Reading.{readRequest, readBasic, readUnicast};
+ghost use Rattle.request.specs.Reading.{readRequest, readBasic, readUnicast, colourData, judged, readColoured};
+use colour::Colour;
 use command::Rule;
 use command::Shape;
 use meaning::Arguments;
 use meaning::Meaning;
+use target::LineTarget;
+use target::Target;
 
 // An IPv4 address, in the order in which it is written.
 pub struct Ipv4(pub u8, pub u8, pub u8, pub u8);
 
-// What a request holds behind its header.
+// What a request holds behind its header. A colour request keeps its target beside what that lights: 127 and 255 are both broadcast.
 pub enum Contents {
     Basic {
         arguments: Arguments,
@@ -23,6 +29,12 @@ pub enum Contents {
     Unicast {
         port: u16,
         address: Ipv4,
+    },
+    Colour {
+        target: LineTarget,
+        lights: Target,
+        level: u8,
+        colour: Colour,
     },
 }
 
@@ -92,6 +104,44 @@ fn read_unicast(s: &[u8]) -> Reading
     })
 }
 
+// A colour request whose colour was read: its sum and its address.
+fn read_coloured(colour: Colour, s: &[u8]) -> Reading
+    requires { ⌜ (8 ≤ length (now s)) × (saidColour colour ≡ hueIn (byte 5 (now s)) (colourData (now s))) ⌝ }
+    ensures { λ r. ⌜ said r ≡ judged (now (s .entry)) ⌝ }
+{
+    if sum::xor(s) != 0 {
+        return Reading::Refused(6);
+    }
+    let address = s[3];
+    if !target::is_lighting(address) {
+        return Reading::Refused(7);
+    }
+    let target = LineTarget(address);
+    Reading::Accepted(Request {
+        sequence: s[1],
+        command: s[2],
+        contents: Contents::Colour {
+            target,
+            lights: target.lights(),
+            level: s[4],
+            colour,
+        },
+    })
+}
+
+// A colour request: its colour data stands between its type and its sum.
+fn read_colour(s: &[u8]) -> Reading
+    requires { ⌜ 8 ≤ length (now s) ⌝ }
+    ensures { λ r. ⌜ said r ≡ readColoured (now (s .entry)) ⌝ }
+{
+    let end = s.len() - 1;
+    let told = colour::read(s[5], &s[command::COLOUR_DATA_AT..end]);
+    match told {
+        colour::Reading::Refused(k) => Reading::Refused(k),
+        colour::Reading::Accepted(colour) => read_coloured(colour, s),
+    }
+}
+
 // What a datagram says as a request: the lowest refusal that applies, or a full reading.
 pub fn read(s: &[u8]) -> Reading
     ensures { λ r. ⌜ said r ≡ readRequest (now (s .entry)) ⌝ }
@@ -107,5 +157,6 @@ pub fn read(s: &[u8]) -> Reading
         Shape::Unknown => Reading::Refused(3),
         Shape::Basic(rule) => read_basic(rule, s),
         Shape::Unicast => read_unicast(s),
+        Shape::Colour => read_colour(s),
     }
 }

@@ -5,14 +5,16 @@
 // c_capture and c_seasons put it, and its contract cites that crate's definition.
 ghost use mathlib.Core.Path.{_≡_};
 ghost use mathlib.Core.Bool.{not};
-ghost use mathlib.Core.List.{[]};
+ghost use mathlib.Core.List.{[], _∷_};
 ghost use lib.Dec.{eqb};
 ghost use Rattle.sum.specs.Sum.{sumOf};
 ghost use Rattle.frame.specs.Relay.{relayed};
 ghost use Rattle.target.specs.Target.{lightsOf, statusOf, lineOf, deviceOf, deviceNumber};
 ghost use Rattle.command.specs.Command.{isKnown};
+ghost use Rattle.command.specs.Colours.{xyType, tcType, rgbwafType};
+ghost use Rattle.colour.specs.Colour.{hue};
 ghost use Rattle.request.specs.Reading.{readRequest};
-ghost use Rattle.request.specs.Writing.{basicFrame, unicastFrame};
+ghost use Rattle.request.specs.Writing.{basicFrame, unicastFrame, colourFrame};
 ghost use Rattle.error.specs.Error.{nameOf};
 ghost use Rattle.reply.specs.Reading.{readReply, codeOf};
 ghost use Rattle.reply.specs.Writing.{replyFrame};
@@ -69,6 +71,7 @@ use c_values::WickGiven;
 use c_values::WickItem;
 use c_values::WickNumber;
 use c_values::WickReader;
+use colour::Colour;
 use event::Layout;
 use meaning::Arguments;
 use target::Device;
@@ -83,7 +86,7 @@ pub extern "C" fn wick_sum(s: &[u8]) -> u8
     sum::xor(s)
 }
 
-// 1 where the command is one of the 32, else 0.
+// 1 where the command is one of the 33, else 0.
 #[no_mangle]
 pub extern "C" fn wick_known(command: u8) -> u8
     ensures { λ r. ⌜ r ≡ flag (isKnown command) ⌝ }
@@ -126,6 +129,64 @@ pub extern "C" fn wick_write_unicast(
     ensures { λ w. ⌜ WrittenOut (unicastFrame sequence port (addressIn address)) (now (out .entry)) w (now (out .exit)) ⌝ }
 {
     c_datagrams::wrote_out(writers::unicast(sequence, port, c_datagrams::address_in(address), out))
+}
+
+// Writes a colour request of type 10.
+#[no_mangle]
+pub extern "C" fn wick_write_colour_xy(
+    sequence: u8,
+    target: u8,
+    level: u8,
+    x: u16,
+    y: u16,
+    out: &mut [u8],
+) -> WickWrote
+    ensures { λ w. ⌜ WrittenOut (colourFrame sequence (record { 0 = target }) level (hue xyType (x ∷ y ∷ []))) (now (out .entry)) w (now (out .exit)) ⌝ }
+{
+    let colour = Colour::Xy { x, y };
+    c_datagrams::wrote_out(writers::colour(sequence, LineTarget(target), level, colour, out))
+}
+
+// Writes a colour request of type 20.
+#[no_mangle]
+pub extern "C" fn wick_write_colour_tc(
+    sequence: u8,
+    target: u8,
+    level: u8,
+    tc: u16,
+    out: &mut [u8],
+) -> WickWrote
+    ensures { λ w. ⌜ WrittenOut (colourFrame sequence (record { 0 = target }) level (hue tcType (tc ∷ []))) (now (out .entry)) w (now (out .exit)) ⌝ }
+{
+    let colour = Colour::Tc(tc);
+    c_datagrams::wrote_out(writers::colour(sequence, LineTarget(target), level, colour, out))
+}
+
+// Writes a colour request of type 80.
+#[no_mangle]
+pub extern "C" fn wick_write_colour_rgbwaf(
+    sequence: u8,
+    target: u8,
+    level: u8,
+    red: u8,
+    green: u8,
+    blue: u8,
+    white: u8,
+    amber: u8,
+    free: u8,
+    out: &mut [u8],
+) -> WickWrote
+    ensures { λ w. ⌜ WrittenOut (colourFrame sequence (record { 0 = target }) level (hue rgbwafType (red ∷ green ∷ blue ∷ white ∷ amber ∷ free ∷ []))) (now (out .entry)) w (now (out .exit)) ⌝ }
+{
+    let colour = Colour::Rgbwaf {
+        red,
+        green,
+        blue,
+        white,
+        amber,
+        free,
+    };
+    c_datagrams::wrote_out(writers::colour(sequence, LineTarget(target), level, colour, out))
 }
 
 // Reads a request and writes it again.

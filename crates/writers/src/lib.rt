@@ -1,25 +1,28 @@
-// Datagrams written into a lent buffer: basic requests, request 40, replies and events, each by the layout of its family (crates request,
-// reply and event have the definitions). It leans on lead for the leads and the most data, on command and ranges for what a basic request may say, and
-// on frame for the last step of writing.
-// Document 01, "Frames" and "Requests and their argument ranges".
+// Datagrams written into a lent buffer: basic requests, request 40, colour requests, replies and events, each by the layout of its family
+// (crates request, reply and event have the definitions). It leans on lead for the leads and the most data, on command and ranges for what a
+// basic request may say, on target and colour for a colour request, and on frame for the last step of writing.
+// Document 01, "Frames" and "Requests and their argument ranges"; document 02, W-202.
 ghost use Prim.Native.Nat.{suc, _+_, _^_};
 ghost use mathlib.Core.Path.{_≡_};
 ghost use mathlib.Core.List.{[], _∷_, _++_};
 ghost use lib.ListN.{take};
 ghost use Rattle.order.specs.Big.{bigBytes};
 ghost use Rattle.frame.specs.Written.{Written};
-ghost use Rattle.request.specs.Writing.{basicFrame, unicastFrame};
+ghost use Rattle.colour.specs.Colour.{saidColour};
+ghost use Rattle.request.specs.Writing.{basicFrame, unicastFrame, colourFrame};
 ghost use Rattle.reply.specs.Writing.{replyFrame};
 ghost use Rattle.event.specs.Layout.{widthOf};
 ghost use Rattle.event.specs.Writing.{eventFrame};
+use colour::Colour;
 use command::Shape;
 use event::Layout;
 use event::Mac;
 use frame::Wrote;
 use meaning::Arguments;
 use request::Ipv4;
+use target::LineTarget;
 
-// Writes a basic request: 3 where the command is unknown or 40, 7 where an argument is outside the table, 8 where the
+// Writes a basic request: 3 where the command is unknown, 40 or 0E, 7 where an argument is outside the table, 8 where the
 // buffer is too short.
 pub fn basic(sequence: u8, command: u8, arguments: Arguments, out: &mut [u8]) -> Wrote
     ensures { λ r. ⌜ Written (basicFrame sequence command arguments) (now (out .entry)) r (now (out .exit)) ⌝ }
@@ -39,6 +42,7 @@ pub fn basic(sequence: u8, command: u8, arguments: Arguments, out: &mut [u8]) ->
         }
         Shape::Unknown => Wrote::Refused(3),
         Shape::Unicast => Wrote::Refused(3),
+        Shape::Colour => Wrote::Refused(3),
     }
 }
 
@@ -61,6 +65,29 @@ pub fn unicast(sequence: u8, port: u16, address: Ipv4, out: &mut [u8]) -> Wrote
         address.3,
     ];
     frame::write(&head, b"", out)
+}
+
+// Writes a colour request, for any level and colour: 7 where the target is no lighting target, 8 where the buffer is too short. A colour
+// has a listed type, so none is refused with 4.
+pub fn colour(sequence: u8, target: LineTarget, level: u8, colour: Colour, out: &mut [u8]) -> Wrote
+    ensures { λ r. ⌜ Written (colourFrame sequence target level (saidColour colour)) (now (out .entry)) r (now (out .exit)) ⌝ }
+{
+    let address = target.0;
+    if !target::is_lighting(address) {
+        return Wrote::Refused(7);
+    }
+    let laid = colour::data_of(colour);
+    let head = [
+        lead::REQUEST,
+        sequence,
+        command::COLOUR_COMMAND,
+        address,
+        level,
+        laid.kind,
+    ];
+    let n = laid.count;
+    let bytes = laid.bytes;
+    frame::write(&head, &bytes[..n], out)
 }
 
 // Writes a reply: 2 where the type is none, 4 where there are more than 64 data bytes, 8 where the buffer is too short.

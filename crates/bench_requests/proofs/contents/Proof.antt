@@ -26,26 +26,32 @@ put-requires c κs = search needs
 enum-known-c-2 : tie.Need-enum-known-c-2
 enum-known-c-2 c = search needs
 
-cast-t24 : tie.Need-cast-t24
-cast-t24 c = search needs
+cast-t28 : tie.Need-cast-t28
+cast-t28 c = search needs
 
-cast-t25 : tie.Need-cast-t25
-cast-t25 c = search needs
+cast-t29 : tie.Need-cast-t29
+cast-t29 c = search needs
 
-cast-t26 : tie.Need-cast-t26
-cast-t26 c = search needs
+cast-t30 : tie.Need-cast-t30
+cast-t30 c = search needs
 
 put-requires-2 : tie.Need-put-requires-2
 put-requires-2 c κs = search needs
 
-cast-t24-2 : tie.Need-cast-t24-2
-cast-t24-2 c = search needs
+cast-t28-2 : tie.Need-cast-t28-2
+cast-t28-2 c = search needs
 
-cast-t25-2 : tie.Need-cast-t25-2
-cast-t25-2 c = search needs
+cast-t29-2 : tie.Need-cast-t29-2
+cast-t29-2 c = search needs
 
 put-requires-3 : tie.Need-put-requires-3
 put-requires-3 c κs = search needs
+
+enum-known-c-3 : tie.Need-enum-known-c-3
+enum-known-c-3 c = search needs
+
+coloured-requires : tie.Need-coloured-requires
+coloured-requires c κs = search needs
 
 same-length : tie.Need-same-length
 same-length c = search needs
@@ -60,6 +66,12 @@ returns-2 : tie.Need-returns-2
 unfolding before wordIn
 returns-2 c = rw (c .before .before .before .before .before .before .before .before .before .before .before .before .before .c2 .given .1) (puts-append (c .before .before .before .before .before .before .before .before .put2 .ensures) (c .before .before .put3 .ensures))
 
+same-length-3 : tie.Need-same-length-3
+same-length-3 c = search needs
+
+returns-3 : tie.Need-returns-3
+returns-3 c = rw (c .before .before .before .before .before .c3 .given .1) (c .before .before .coloured .ensures)
+
 pub contents-spec : {M : Type 1} → statement M
 contents-spec =
     tie.close
@@ -71,14 +83,18 @@ contents-spec =
     meaning-requires
     put-requires
     enum-known-c-2
-    cast-t24
-    cast-t25
-    cast-t26
+    cast-t28
+    cast-t29
+    cast-t30
     put-requires-2
-    cast-t24-2
-    cast-t25-2
+    cast-t28-2
+    cast-t29-2
     put-requires-3
+    enum-known-c-3
+    coloured-requires
     same-length
     returns
     same-length-2
-    returns-2)
+    returns-2
+    same-length-3
+    returns-3)

@@ -11,14 +11,14 @@ accepted-request-requires c κs = search needs
 enum-known-r-2 : tie.Need-enum-known-r-2
 enum-known-r-2 c = search needs
 
-means-requires : tie.Need-means-requires
-means-requires c κs = search needs
+contentless-requires : tie.Need-contentless-requires
+contentless-requires c κs = search needs
 
 returns : tie.Need-returns
 returns c = rw (c .before .before .r .given .1) (c .accepted-request .ensures)
 
 returns-2 : tie.Need-returns-2
-returns-2 c = rw (c .before .before .r2 .given .1, c .means .ensures)
+returns-2 c = rw (c .before .before .r2 .given .1) (c .contentless .ensures)
 
 pub request-out-spec : {M : Type 1} → statement M
 request-out-spec =
@@ -27,6 +27,6 @@ request-out-spec =
     enum-known-r
     accepted-request-requires
     enum-known-r-2
-    means-requires
+    contentless-requires
     returns
     returns-2)

@@ -15,6 +15,9 @@ enum-told-2 c = search needs
 enum-told-3 : tie.Need-enum-told-3
 enum-told-3 c = search needs
 
+enum-told-4 : tie.Need-enum-told-4
+enum-told-4 c = search needs
+
 returns : tie.Need-returns
 returns c = rw (← shape-told (c .before .before .shape-of .result) (c .before .before .before .args .command) (c .before .before .shape-of .ensures), c .enum-told .given .1)
 
@@ -24,7 +27,10 @@ returns-2 c = rw (← shape-told (c .before .before .shape-of .result) (c .befor
 returns-3 : tie.Need-returns-3
 returns-3 c = rw (← shape-told (c .before .before .shape-of .result) (c .before .before .before .args .command) (c .before .before .shape-of .ensures), c .enum-told3 .given .1)
 
+returns-4 : tie.Need-returns-4
+returns-4 c = rw (← shape-told (c .before .before .shape-of .result) (c .before .before .before .args .command) (c .before .before .shape-of .ensures), c .enum-told4 .given .1)
+
 pub known-spec : {M : Type 1} → statement M
 known-spec =
     tie.close
-    (tie.spec shape-of-requires enum-told enum-told-2 enum-told-3 returns returns-2 returns-3)
+    (tie.spec shape-of-requires enum-told enum-told-2 enum-told-3 enum-told-4 returns returns-2 returns-3 returns-4)

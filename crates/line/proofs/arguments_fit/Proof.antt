@@ -34,6 +34,15 @@ fits-requires c κs = search needs
 enum-told-2 : tie.Need-enum-told-2
 enum-told-2 c = search needs
 
+enum-told-3 : tie.Need-enum-told-3
+enum-told-3 c = search needs
+
+shared-slice-read-is-lighting : tie.Need-shared-slice-read-is-lighting
+shared-slice-read-is-lighting c = search needs
+
+is-lighting-requires : tie.Need-is-lighting-requires
+is-lighting-requires c κs = search needs
+
 returns : tie.Need-returns
 returns c = rw (← shape-told (c .before .before .shape-of .result) _ (c .before .before .shape-of .ensures), c .enum-told .given .1)
 
@@ -42,6 +51,9 @@ returns-2 c = c .fits2 .ensures ∙ rw (← shape-told (c .before .before .befor
 
 returns-3 : tie.Need-returns-3
 returns-3 c = rw (← shape-told (c .before .before .shape-of .result) _ (c .before .before .shape-of .ensures), c .enum-told2 .given .1)
+
+returns-4 : tie.Need-returns-4
+returns-4 c = c .is-lighting .ensures ∙ rw (← shape-told (c .before .before .before .before .shape-of .result) _ (c .before .before .before .before .shape-of .ensures), c .before .before .enum-told3 .given .1)
 
 pub arguments-fit-spec : {M : Type 1} → statement M
 arguments-fit-spec =
@@ -57,6 +69,10 @@ arguments-fit-spec =
     shared-slice-read-fits-4
     fits-requires
     enum-told-2
+    enum-told-3
+    shared-slice-read-is-lighting
+    is-lighting-requires
     returns
     returns-2
-    returns-3)
+    returns-3
+    returns-4)

@@ -26,6 +26,12 @@ enum-told-3 c = search needs
 unicast-extent-requires : tie.Need-unicast-extent-requires
 unicast-extent-requires c κs = search needs
 
+enum-told-4 : tie.Need-enum-told-4
+enum-told-4 c = search needs
+
+colour-extent-requires : tie.Need-colour-extent-requires
+colour-extent-requires c κs = search needs
+
 returns-2 : tie.Need-returns-2
 returns-2 c = shape-extent (c .before .before .before .before .before .before .args .s .now) (c .before .before .shape-of .result) _ (c .before .before .before .before .if1 .left) (shape-told (c .before .before .shape-of .result) _ (c .before .before .shape-of .ensures)) (rw (c .enum-told .given .1))
 
@@ -34,6 +40,9 @@ returns-3 c = shape-extent (c .before .before .before .before .before .before .a
 
 returns-4 : tie.Need-returns-4
 returns-4 c = shape-extent (c .before .before .before .before .before .before .before .args .s .now) (c .before .before .before .shape-of .result) _ (c .before .before .before .before .before .if1 .left) (shape-told (c .before .before .before .shape-of .result) _ (c .before .before .before .shape-of .ensures)) (rw (c .before .enum-told3 .given .1) (c .unicast-extent .ensures))
+
+returns-5 : tie.Need-returns-5
+returns-5 c = shape-extent (c .before .before .before .before .before .before .before .args .s .now) (c .before .before .before .shape-of .result) _ (c .before .before .before .before .before .if1 .left) (shape-told (c .before .before .before .shape-of .result) _ (c .before .before .before .shape-of .ensures)) (rw (c .before .enum-told4 .given .1) (c .colour-extent .ensures))
 
 pub request-extent-spec : {M : Type 1} → statement M
 request-extent-spec =
@@ -46,6 +55,9 @@ request-extent-spec =
     enum-told-2
     enum-told-3
     unicast-extent-requires
+    enum-told-4
+    colour-extent-requires
     returns-2
     returns-3
-    returns-4)
+    returns-4
+    returns-5)

@@ -37,6 +37,12 @@ enum-told-2 c = search needs
 read-unicast-requires : tie.Need-read-unicast-requires
 read-unicast-requires c κs = search needs
 
+enum-told-3 : tie.Need-enum-told-3
+enum-told-3 c = search needs
+
+read-colour-requires : tie.Need-read-colour-requires
+read-colour-requires c κs = search needs
+
 returns-3 : tie.Need-returns-3
 returns-3 c = numbers-read (c .before .before .before .before .before .before .before .before .args .s .now) (c .before .before .shape-of .result) _ (search needs) (c .before .before .before .before .if2 .left) (c .before .before .shape-of .ensures) (rw (c .enum-told .given .1))
 
@@ -49,6 +55,11 @@ returns-5 : tie.Need-returns-5
 returns-5 c =
     numbers-read (c .before .before .before .before .before .before .before .before .before .args .s .now) (c .before .before .before .shape-of .result) _ (search needs) (c .before .before .before .before .before .if2 .left) (c .before .before .before .shape-of .ensures)
     (rw (c .before .enum-told2 .given .1) (c .read-unicast .ensures))
+
+returns-6 : tie.Need-returns-6
+returns-6 c =
+    numbers-read (c .before .before .before .before .before .before .before .before .before .args .s .now) (c .before .before .before .shape-of .result) _ (search needs) (c .before .before .before .before .before .if2 .left) (c .before .before .before .shape-of .ensures)
+    (rw (c .before .enum-told3 .given .1) (c .read-colour .ensures))
 
 pub read-spec : {M : Type 1} → statement M
 read-spec =
@@ -64,6 +75,9 @@ read-spec =
     read-basic-requires
     enum-told-2
     read-unicast-requires
+    enum-told-3
+    read-colour-requires
     returns-3
     returns-4
-    returns-5)
+    returns-5
+    returns-6)

@@ -34,6 +34,9 @@ enum-told c = search needs
 enum-told-2 : tie.Need-enum-told-2
 enum-told-2 c = search needs
 
+enum-told-3 : tie.Need-enum-told-3
+enum-told-3 c = search needs
+
 same-length : tie.Need-same-length
 same-length c = search needs
 
@@ -49,6 +52,9 @@ returns-3 c = refuses (c .before .before .before .before .args .out .now) (rw (�
 returns-4 : tie.Need-returns-4
 returns-4 c = refuses (c .before .before .before .before .args .out .now) (rw (← shape-told (c .before .before .shape-of .result) _ (c .before .before .shape-of .ensures), c .enum-told2 .given .1))
 
+returns-5 : tie.Need-returns-5
+returns-5 c = refuses (c .before .before .before .before .args .out .now) (rw (← shape-told (c .before .before .shape-of .result) _ (c .before .before .shape-of .ensures), c .enum-told3 .given .1))
+
 pub basic-spec : {M : Type 1} → statement M
 basic-spec =
     tie.close
@@ -62,7 +68,9 @@ basic-spec =
     write-requires
     enum-told
     enum-told-2
+    enum-told-3
     same-length
     returns-2
     returns-3
-    returns-4)
+    returns-4
+    returns-5)
