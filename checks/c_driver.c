@@ -130,16 +130,7 @@ static void cleared(const void *r, size_t size) {
 }
 
 /* Datagrams */
-static void request(void) {
-    struct wick_request r = wick_request(g[0].bytes, g[0].n);
-    printf("%u", r.refusal);
-    if (r.refusal) {
-        if (r.sequence | r.command | r.a | r.b | r.c | r.d | r.port | r.meaning.kind | r.address.bytes[0]) printf(" NOT 0");
-        colourless(r.colour);
-        return;
-    }
-    number("sequence", r.sequence);
-    printf(" command %02X", r.command);
+static void contents(struct wick_request r) {
     if (r.command == WICK_DALI_COLOUR) {
         if (r.a | r.b | r.c | r.d | r.port | r.meaning.kind | r.address.bytes[0]) printf(" NOT 0");
         colour(r.colour);
@@ -153,6 +144,20 @@ static void request(void) {
     }
     printf(" arguments %02X %02X %02X %02X", r.a, r.b, r.c, r.d);
     meaning(r.meaning);
+}
+
+static void request(void) {
+    struct wick_request r = wick_request(g[0].bytes, g[0].n);
+    printf("%u", r.refusal);
+    if (r.refusal) {
+        if (r.sequence | r.command | r.a | r.b | r.c | r.d | r.retired | r.port | r.meaning.kind | r.address.bytes[0]) printf(" NOT 0");
+        colourless(r.colour);
+        return;
+    }
+    number("sequence", r.sequence);
+    printf(" command %02X", r.command);
+    contents(r);
+    if (r.retired) printf(r.retired == 1 ? " retired" : " NO MARK");
 }
 
 static void write_basic(void) {

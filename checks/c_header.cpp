@@ -1,6 +1,6 @@
 // The header in C++: it compiles, its functions link, the scenes that it names are the last that requests take, colour requests have the
-// sizes and fields that it names and none is longer, the sizes and targets that it names for each layout of events are the ends of theirs, and
-// captures, runs of datagrams and seasons, whole and part by part, are as it says.
+// sizes and fields that it names and none is longer, what it calls retired is read, marked and not written, the sizes and targets that it names for
+// each layout of events are the ends of theirs, and captures, runs of datagrams and seasons, whole and part by part, are as it says.
 #include "wickanchor.h"
 
 // What writing a request with these arguments is refused with.
@@ -48,6 +48,28 @@ static bool colours() {
         && f.kind == WICK_COLOUR_RGBWAF && f.target == 255 && f.aim.kind == WICK_AIM_BROADCAST && f.red == 1 && f.green == 2 && f.blue == 3
         && f.white == 4 && f.amber == 5 && f.free == 6 && !f.tc
         && wick_request(tc, sizeof tc).refusal == WICK_BAD_LENGTH_BYTE && refused(WICK_DALI_COLOUR, 0, 0, 0) == WICK_UNKNOWN_COMMAND;
+}
+
+// The retired command is refused in writing, behind an unknown one and before a bad argument or no room, and in asking; what was written before
+// is read and marked, its neighbours are not, and a book that holds it takes its reply.
+static bool retired() {
+    const uint8_t scenes[] = {0x04, 0x07, WICK_QUERY_SCENE_NUMBERS, 0, 0, 0, 0, 0x04 ^ 0x07 ^ WICK_QUERY_SCENE_NUMBERS};
+    uint8_t groups[WICK_BASIC_BYTES], out[WICK_BASIC_BYTES] = {};
+    const struct wick_request r = wick_request(scenes, sizeof scenes);
+    struct wick_book book = wick_book();
+    const struct wick_booked fresh = wick_ask(book, WICK_QUERY_SCENE_NUMBERS);
+    for (int i = 0; i < 256; i++) book.asked[i] = WICK_QUERY_SCENE_NUMBERS;
+    const struct wick_booked none = wick_ask(book, WICK_QUERY_SCENE_NUMBERS), freed = wick_answer(book, 7);
+    return refused(WICK_QUERY_SCENE_NUMBERS, 0, 0, 0) == WICK_RETIRED && refused(WICK_QUERY_SCENE_NUMBERS, 1, 2, 3) == WICK_RETIRED
+        && wick_write_basic(0, WICK_QUERY_SCENE_NUMBERS, 1, 0, 0, 0, out, 0).refusal == WICK_RETIRED
+        && wick_relay_request(scenes, sizeof scenes, out, sizeof out).refusal == WICK_RETIRED && !out[0]
+        && wick_write_basic(7, WICK_QUERY_GROUP_NUMBERS, 0, 0, 0, 0, groups, sizeof groups).count == sizeof groups
+        && r.refusal == WICK_OK && r.command == WICK_QUERY_SCENE_NUMBERS && r.sequence == 7 && r.retired == 1 && r.meaning.kind == WICK_MEANS_NOTHING
+        && wick_request(groups, sizeof groups).refusal == WICK_OK && wick_request(groups, sizeof groups).retired == 0
+        && whole(scenes, sizeof scenes) && wick_known(WICK_QUERY_SCENE_NUMBERS)
+        && fresh.refusal == WICK_RETIRED && fresh.book.last == 255 && none.refusal == WICK_RETIRED
+        && wick_ask(book, WICK_QUERY_GROUP_NUMBERS).refusal == WICK_NO_NUMBER_FREE
+        && freed.refusal == WICK_OK && freed.answer == WICK_QUERY_SCENE_NUMBERS && wick_answer(freed.book, 7).refusal == WICK_NOT_AWAITED;
 }
 
 // An event without data is as long as the least that the header names, one of all its data as long as the most and with its data where
@@ -196,6 +218,6 @@ int main() {
     const struct wick_reply r = wick_reply(frame, sizeof frame);
     const struct wick_wrote w = wick_write_reply(WICK_REPLY_ANSWER, r.sequence, frame + r.data_at, r.n, out, sizeof out);
     const struct wick_given v = wick_feed(WICK_REPLY_LINE, wick_reader(), out, w.count);
-    return r.refusal == WICK_OK && w.count == sizeof frame && v.has_item && v.item == 0 && v.count == w.count && scenes() && colours() && layouts()
+    return r.refusal == WICK_OK && w.count == sizeof frame && v.has_item && v.item == 0 && v.count == w.count && scenes() && colours() && retired() && layouts()
         ? 0 : 1;
 }

@@ -35,6 +35,7 @@ int main(int argc, char **argv) {
         colour(q.colour);
     } else if (!q.refusal) {
         printf("request %u: %s, arguments %u %u %u %u", q.sequence, name(WICK_KIND_COMMAND, q.command), q.a, q.b, q.c, q.d);
+        if (q.retired) printf(", retired");
     } else if (!r.refusal) {
         struct wick_code e = wick_error_code(d, n);
         printf("reply %u: %s, data", r.sequence, name(WICK_KIND_REPLY_TYPE, r.kind));

@@ -9,8 +9,8 @@
 
    `refusal` is 0 where a call is not refused; then the fields count. Else it is one of enum wick_refusal, and all other fields are 0 (but
    for a book, and for mark, summary and bytes in use of an append or of a run of datagrams, which are handed back as they were). The lowest
-   number that applies is given; calls of a capture give the first in the order in which their refusals stand below. A refused writer writes
-   no byte; one that is not refused writes `count` bytes, and leaves those behind them. */
+   number that applies is given, but for 17, which comes right behind 3; calls of a capture give the first in the order in which their refusals
+   stand below. A refused writer writes no byte; one that is not refused writes `count` bytes, and leaves those behind them. */
 #ifndef WICKANCHOR_H
 #define WICKANCHOR_H
 
@@ -22,8 +22,9 @@
    6: runs of datagrams (W-208): wick_capture_run, wick_capture_run_at. 7: seasons of one corridor (W-213): wick_capture_seasons, and refusal
    20, which has a name. 8: the same part by part: wick_seasons_begin, wick_seasons_part, wick_seasons_end. 9: colour requests (W-202): the
    functions whose names begin with wick_write_colour, command 0E, which has a name, and the colour in struct wick_request, which is longer; a
-   reader of a request line holds up to 12 bytes. */
-#define WICKANCHOR_VERSION 9
+   reader of a request line holds up to 12 bytes. 10: command 0A is retired (W-210): refusal 17, which has a name, and `retired` in struct
+   wick_request, in the place of a byte that said nothing, so that no other field moves. */
+#define WICKANCHOR_VERSION 10
 
 #ifdef __cplusplus
 extern "C" {
@@ -95,6 +96,7 @@ enum wick_refusal {
                                        also a capture of no version byte, or with more bytes in use than there are; also a run of
                                        datagrams that is cut short */
     WICK_EARLIER_TIME = 16,         /* seconds lower than the last record's */
+    WICK_RETIRED = 17,              /* command 0A, in writing and asking only; it comes behind 3 and before every other */
     WICK_NOT_RISING = 20            /* a boundary of seasons that is not above the one before */
 };
 
@@ -103,7 +105,7 @@ enum wick_command {
     WICK_QUERY_GROUP_LABEL = 0x01,
     WICK_ENABLE_TPI_EVENT_EMIT = 0x08,
     WICK_QUERY_GROUP_NUMBERS = 0x09,
-    WICK_QUERY_SCENE_NUMBERS = 0x0A,
+    WICK_QUERY_SCENE_NUMBERS = 0x0A, /* retired: its reply does not say which group it means; 1A asks for a group's */
     WICK_QUERY_PROFILE_NUMBERS = 0x0B,
     WICK_QUERY_OCCUPANCY_INSTANCE_TIMERS = 0x0C,
     WICK_DALI_COLOUR = 0x0E,
@@ -253,6 +255,7 @@ struct wick_request {
     uint8_t refusal, sequence, command;
     uint8_t a, b, c, d;             /* the arguments; 0 for commands 40 and 0E */
     struct wick_address address;    /* of command 40, else 0 */
+    uint8_t retired;                /* 1 where the command is retired, else 0 */
     uint16_t port;                  /* of command 40, else 0 */
     struct wick_meaning meaning;    /* of the arguments */
     struct wick_colour colour;      /* of command 0E, else 0 */
@@ -498,10 +501,10 @@ WICK_SIZE(struct wick_season, 48);
 WICK_SIZE(struct wick_seasons, 200);
 WICK_SIZE(struct wick_seasons_state, 336);
 
-/* Reads a request datagram. Refusals 1, 2, 3, 4, 5, 6, 7. */
+/* Reads a request datagram. A retired command is read as every other, and marked. Refusals 1, 2, 3, 4, 5, 6, 7. */
 struct wick_request wick_request(const uint8_t *bytes, uint64_t length);
 
-/* Writes a basic request. Refusals 3, 7, 8. */
+/* Writes a basic request. Refusals 3, 17, 7, 8, in this order. */
 struct wick_wrote wick_write_basic(uint8_t sequence, uint8_t command, uint8_t a, uint8_t b, uint8_t c, uint8_t d, uint8_t *out, uint64_t room);
 
 /* Writes request 40. Refusal 8. */
@@ -514,7 +517,8 @@ struct wick_wrote wick_write_colour_tc(uint8_t sequence, uint8_t target, uint8_t
 struct wick_wrote wick_write_colour_rgbwaf(uint8_t sequence, uint8_t target, uint8_t level, uint8_t red, uint8_t green, uint8_t blue,
                                            uint8_t white, uint8_t amber, uint8_t free, uint8_t *out, uint64_t room);
 
-/* Reads a datagram of its family and writes it again, byte for byte. Refusals of the reader, and 8. */
+/* Reads a datagram of its family and writes it again, byte for byte. Refusals of the reader; then 17, for a request that is marked as
+   retired; then 8. */
 struct wick_wrote wick_relay_request(const uint8_t *bytes, uint64_t length, uint8_t *out, uint64_t room);
 struct wick_wrote wick_relay_reply(const uint8_t *bytes, uint64_t length, uint8_t *out, uint64_t room);
 struct wick_wrote wick_relay_event(const uint8_t *bytes, uint64_t length, uint8_t *out, uint64_t room);
@@ -587,10 +591,10 @@ struct wick_aim wick_status(uint8_t target);
 /* A book in which nothing is asked, and whose first number is 0. */
 struct wick_book wick_book(void);
 
-/* The sequence number for a request with this command, which is awaited from then on. Refusals 3, 9. */
+/* The sequence number for a request with this command, which is awaited from then on. Refusals 3, 17, 9, in this order. */
 struct wick_booked wick_ask(struct wick_book book, uint8_t command);
 
-/* The command that was asked under a reply's sequence number, which is free from then on. Refusal 10. */
+/* The command that was asked under a reply's sequence number, which is free from then on; a retired one too. Refusal 10. */
 struct wick_booked wick_answer(struct wick_book book, uint8_t number);
 
 /* A reader that holds nothing. */

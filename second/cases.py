@@ -293,6 +293,15 @@ def subsets(things):
         yield [thing for place, thing in enumerate(things) if choice >> place & 1]
 
 
+def faulty(frame, wrong_bytes):
+    """The frame with every choice among the wrong bytes, each at its place, and its sum put right."""
+    for wrong in subsets(wrong_bytes):
+        datagram = frame
+        for place, value in wrong:
+            datagram = replaced(datagram, place, value)
+        yield resummed(datagram)
+
+
 # For each frame: its family, wrong bytes and their places, and sizes too short for the family or the frame.
 FAULTS = [
     ("request", basic(0, 0xA9, [1, 0, 0, 0]), [(0, 0xA0), (2, 0x02), (3, 80)], [0, 7]),
@@ -309,11 +318,7 @@ FAULTS = [
 def fault_calls():
     """Each frame of FAULTS with every choice of its faults at once, its sum right or not, and of every size."""
     for family, frame, wrong_bytes, sizes in FAULTS:
-        for wrong in subsets(wrong_bytes):
-            datagram = frame
-            for place, value in wrong:
-                datagram = replaced(datagram, place, value)
-            datagram = resummed(datagram)
+        for datagram in faulty(frame, wrong_bytes):
             spoilt = replaced(datagram, len(frame) - 1, datagram[-1] ^ 0x55)
             for size in sizes + [len(frame), len(frame) + 1]:
                 yield from read_calls(family, (datagram + b"\x00")[:size])
@@ -463,7 +468,8 @@ def book_set(last, held):
 
 
 def full_book():
-    """A full book, its refusals, and numbers used again in their turn."""
+    """A full book, its refusals, and numbers used again in their turn. Since W-210 the asks of 0A are refused, and as many numbers stay free:
+    filled_by_asking has a full one."""
     yield "book_fresh"
     yield "book_show"
     for number in range(256):
@@ -796,12 +802,9 @@ def relays():
             for family in ["request", "reply", "event"]:
                 yield call("relay_" + family, frame, pattern(len(frame)))
     for family, frame, wrong_bytes, _ in FAULTS:
-        for wrong in subsets(wrong_bytes):
-            datagram = frame
-            for place, value in wrong:
-                datagram = replaced(datagram, place, value)
-            yield call("relay_" + family, resummed(datagram), pattern(len(frame) - 1))
-            yield call("relay_" + family, resummed(datagram), pattern(len(frame) + 2))
+        for datagram in faulty(frame, wrong_bytes):
+            yield call("relay_" + family, datagram, pattern(len(frame) - 1))
+            yield call("relay_" + family, datagram, pattern(len(frame) + 2))
 
 
 def names():
@@ -952,11 +955,7 @@ def two_byte_targets():
     # several faults at once, and each lead
     for type_, data in [(0, b""), (7, b""), (2, bytes([1])), (3, bytes([1]))]:
         frame = event(59, type_, data, 2)
-        for wrong in subsets([(0, 0x5B), (1, 0x42), (11, 49), (11, 1 - len(data))]):
-            datagram = frame
-            for place, value in wrong:
-                datagram = replaced(datagram, place, value)
-            datagram = resummed(datagram)
+        for datagram in faulty(frame, [(0, 0x5B), (1, 0x42), (11, 49), (11, 1 - len(data))]):
             for size in [0, 2, 12, 13, 14, 15]:
                 for given in [datagram, replaced(datagram, len(frame) - 1, datagram[-1] ^ 0x55)]:
                     yield call("event_two", (given + b"\x00\x00")[:size])
@@ -2640,11 +2639,7 @@ def colour_addresses():
 def colour_faults():
     """Lead, command, type and address wrong in every choice, the sum right or not, in sizes too short, of another type and its own."""
     for frame in COLOUR_FRAMES:
-        for wrong in subsets([(0, 0x05), (2, 0x0F), (5, 0x00), (3, 80)]):
-            datagram = frame
-            for place, value in wrong:
-                datagram = replaced(datagram, place, value)
-            datagram = resummed(datagram)
+        for datagram in faulty(frame, [(0, 0x05), (2, 0x0F), (5, 0x00), (3, 80)]):
             for size in sorted(set([7, 8, 9, len(frame)])):
                 yield call("request", datagram[:size])
             yield call("request", spoilt(datagram))
@@ -2736,7 +2731,7 @@ def single(run):
     return [run[place:place + 1] for place in range(len(run))]
 
 
-def colour_line(parts):
+def request_line(parts):
     """A request line, fed part by part as its reader takes the bytes, and then closed."""
     return fed_and_closed("request", parts, opinion.Reader)
 
@@ -2748,15 +2743,15 @@ def cut_colour_lines():
         trap = bytes([0xFF, 0x04]) + colour(type_, data, 0x0E, 79, [0x20, 0x21, 0x10][number]) + bytes([0x04, 0x00])
         for stream in [colour(type_, data, 3, 255, 0), trap]:
             for place in range(len(stream) + 1):
-                yield from colour_line([stream[:place], stream[place:]])
-            yield from colour_line(single(stream))
+                yield from request_line([stream[:place], stream[place:]])
+            yield from request_line(single(stream))
 
 
 def targets_on_colour_lines():
     """The addresses about the edges, with each type, one behind the other; then a good basic request, which shows where reading goes on."""
     for address in COLOUR_ADDRESSES:
         frames = [colour(type_, data, 1, address, 4) for _, type_, data in COLOURS]
-        yield from colour_line([b"".join(frames) + basic(2, 0x09, [0, 0, 0, 0])])
+        yield from request_line([b"".join(frames) + basic(2, 0x09, [0, 0, 0, 0])])
 
 
 def unlisted_types_on_lines():
@@ -2766,13 +2761,13 @@ def unlisted_types_on_lines():
         head = bytes([0x04, 0x00, 0x0E, 0x01, 0xFE, type_])
         for size in range(5, 8):
             yield call("settle_request", (head + good)[:size])
-        yield from colour_line([head + good])
+        yield from request_line([head + good])
     for type_ in [0x00, 0x7F]:
-        yield from colour_line(single(bytes([0x04, 0x00, 0x0E, 0x01, 0xFE, type_]) + good))
-    yield from colour_line([bytes([0x04, 0x00, 0x0E, 0x01, 0xFE]) + good])
-    yield from colour_line(single(bytes([0x04, 0x00, 0x0E, 0x01, 0xFE]) + good))
+        yield from request_line(single(bytes([0x04, 0x00, 0x0E, 0x01, 0xFE, type_]) + good))
+    yield from request_line([bytes([0x04, 0x00, 0x0E, 0x01, 0xFE]) + good])
+    yield from request_line(single(bytes([0x04, 0x00, 0x0E, 0x01, 0xFE]) + good))
     for frame in [PRINTED_COLOUR, resummed(replaced(PRINTED_COLOUR, 5, 0x80))]:
-        yield from colour_line([basic(1, 0x0B, [0, 0, 0, 0]) + frame + good])
+        yield from request_line([basic(1, 0x0B, [0, 0, 0, 0]) + frame + good])
 
 
 def frames_inside():
@@ -2780,25 +2775,25 @@ def frames_inside():
     inner = [basic(5, 0xA9, [79, 0, 0, 0]), unicast(6, bytes([0x22, 0x6B, 0x04, 0x00, 0x0E, 0x01])), colour(0x20, bytes([1, 0x72]), 7)]
     for _, type_, _ in COLOURS:
         for frame in inner:
-            yield from colour_line([bytes([0x04, 0x00, 0x0E, 0x02, 0xFD, type_]) + frame])
+            yield from request_line([bytes([0x04, 0x00, 0x0E, 0x02, 0xFD, type_]) + frame])
     for level in [0, 0x0E]:
         stream = bytes([0x04, 0x00, 0x0E]) + basic(level, 0x20, [0, 1, 2, 3]) + bytes([0x04])
-        yield from colour_line([stream])
-        yield from colour_line(single(stream))
+        yield from request_line([stream])
+        yield from request_line(single(stream))
     # the same with a right sum around it: the outer frame stands
     around = basic(7, 0x20, [0, 1, 0, 0])
-    yield from colour_line([summed(bytes([0x04, 0x00, 0x0E]) + around[:5]) + around])
+    yield from request_line([summed(bytes([0x04, 0x00, 0x0E]) + around[:5]) + around])
     # frames of one type whose bytes are right for another: the type alone says how long they are
     for _, type_, _ in COLOURS:
         for size in [9, 11, 13]:
-            yield from colour_line([of_size(type_, size) + basic(5, 0x09, [0, 0, 0, 0])])
+            yield from request_line([of_size(type_, size) + basic(5, 0x09, [0, 0, 0, 0])])
 
 
 def closed_colour_lines():
     """A frame of each type closed at every length, and what stands at each, open and closed."""
     for frame in COLOUR_FRAMES:
         for size in range(len(frame) + 1):
-            yield from colour_line([frame[:size]])
+            yield from request_line([frame[:size]])
             for flag in [0, 1]:
                 yield call("item_request", [flag], frame[:size])
             yield call("settle_request", frame[:size])
@@ -2911,10 +2906,284 @@ COLOUR_CALLS_SET_OTHERWISE = [
 
 
 def no_colour_calls():
-    """Lines that are no call, between what the run carries, set before them and shown behind them; the last line has no line feed."""
+    """Lines that are no call, between what the run carries, set before them and shown behind them."""
     yield from ["fresh_request", "feed_request 04 00 0E 01 FE", "book_fresh", "ask 0E"]
     yield from COLOUR_NO_CALLS + ["show_request", "book_show", "feed_request 20 01 72 A6", "close_request"] + COLOUR_CALLS_SET_OTHERWISE
     yield "request 04 00 0E 7F FE 20 01 72 D8"
+
+
+# W-210: the retired command
+
+# The retired command between its neighbours, which like it take no arguments.
+BESIDE = [0x09, 0x0A, 0x0B]
+
+# The source says of these what it says of 0A, and they are unknown.
+LEGACY = [0x02, 0x13]
+
+# All that may still be asked: the known commands but 0A.
+ASKED = sorted(set(KNOWN + [0x0E]) - set([0x0A]))
+
+
+def plain(sequence, command):
+    """A frame of basic shape whose arguments are 0."""
+    return basic(sequence, command, bytes(4))
+
+
+def frame_of(command, sequence):
+    """A frame of the command, a good one where the command is known."""
+    if command == 0x40:
+        return unicast(sequence, pattern(6))
+    if command == 0x0E:
+        return colour(0x20, bytes([1, 0x72]), sequence)
+    return basic(sequence, command, good_arguments(command, max)[-1]) if command in opinion.BASIC else plain(sequence, command)
+
+
+# Datagrams
+
+def retired_datagrams():
+    """Frames of 0A: sequence numbers, each byte changed, cut and longer; every known command; and 0A in the other places of a frame."""
+    for sequence in [0, 1, 4, 9, 10, 11, 17, 127, 128, 254, 255]:
+        yield call("request", plain(sequence, 0x0A))
+    frame = plain(3, 0x0A)
+    for datagram in list(byte_changes(frame, range(len(frame)))) + list(size_changes(frame)):
+        yield call("request", datagram)
+    for command in ASKED + LEGACY + [0x0A]:
+        yield call("request", frame_of(command, 255 - command))
+    # as a sequence number, as arguments, in port and address, in all of a colour request, and as the sum
+    for datagram in [plain(10, 0x09), plain(10, 0x1A), basic(10, 0x01, [10, 0, 0, 0]), basic(10, 0x20, [0, 10, 10, 10]),
+                     basic(10, 0xA2, [10, 0, 0, 10]), unicast(10, bytes([10] * 6)), colour(0x20, bytes([10, 10]), 10, 10, 10), plain(7, 0x09)]:
+        yield call("request", datagram)
+
+
+def retired_faults():
+    """Lead and arguments wrong in every choice, the sum right or not, too long and too short: read, and of 0A relayed."""
+    for command in BESIDE:
+        for datagram in faulty(plain(0, command), [(0, 0x05), (3, 0xFF), (6, 1)]):
+            given = [datagram, datagram + b"\x00", spoilt(datagram), spoilt(datagram) + b"\x00", datagram[:7]]
+            yield from [call("request", run) for run in given]
+            if command == 0x0A:
+                yield from [call("relay_request", run, pattern(9)) for run in given] + [call("relay_request", datagram, pattern(7))]
+
+
+def retired_relays():
+    """Good frames of 0A and its neighbours into buffers of several sizes, and of every known command into one that is long enough."""
+    for command in BESIDE:
+        for size in [0, 7, 8, 9]:
+            yield call("relay_request", plain(5, command), pattern(size))
+    for command in ASKED + [0x0A]:
+        yield call("relay_request", frame_of(command, command), pattern(11))
+
+
+def retired_writing():
+    """Good and bad arguments into buffers too short and long enough; then every command byte, with arguments in range and outside."""
+    for command in BESIDE:
+        for arguments in [bytes(4)] + with_each_place(bytes(4), [1]):
+            for size in [0, 7, 8, 9]:
+                yield call("write_basic", bytes([6, command]) + arguments, pattern(size))
+    for sequence in [0, 10, 17, 255]:
+        yield call("write_basic", [sequence, 0x0A, 0, 0, 0, 0], pattern(8))
+    for command in range(256):
+        yield call("write_basic", frame_of(command, command)[1:7], pattern(8))
+        yield call("write_basic", bytes([0, command]) + b"\xFF" * 4, pattern(command % 9))
+
+
+def retired_values():
+    """What stays: 0A is known, of the basic shape, without arguments, and has its name. Then the name of 17."""
+    for command in BESIDE + [0x1A] + LEGACY:
+        yield from [call("known", [command]), call("shape", [command]), call("name", [1, command], pattern(30))]
+        for arguments in [bytes(4)] + with_each_place(bytes(4), [1, 255]):
+            yield call("fits", bytes([command]) + arguments)
+    for size in range(10):
+        yield call("name", [0, 17], pattern(size))
+    # its neighbours, 17 read as hexadecimal, and as a number of the other kinds
+    for kind, number in [(0, 16), (0, 18), (0, 0x17), (1, 17), (2, 17), (3, 17), (4, 17)]:
+        yield call("name", [kind, number], pattern(12))
+
+
+# The book
+
+def refused_asks():
+    """0A asked of fresh books, of books with a number free and without, and with entries 0A: nothing moves."""
+    yield from ["book_fresh", ask(0x0A), "book_show", ask(0x09), ask(0x0A), "book_show", ask(0x0B), ask(0x0A), ask(0x0A), ask(0x1A), "book_show"]
+    yield from [answered(1), ask(0x0A), answered(1), answered(3), ask(0x02), ask(0x13), ask(0x0E), "book_show"]
+    for last in [0, 255]:
+        for held in [b"", bytes([0x09, 0x0A, 0x0B, 0x0D]), bytes([0x0A] * 255), bytes([0x0A] * 256), bytes([0xA1] * 256)]:
+            yield from [book_set(last, held), ask(0x0A), ask(0x0D), "book_show", ask(0x09), ask(0x0A), "book_show"]
+
+
+def asks_of_a_full_book():
+    """Every command byte asked of a full book, in which 0A stands in every other place."""
+    yield book_set(9, bytes([0x0A, 0xA1] * 128))
+    for command in range(256):
+        yield ask(command)
+    yield "book_show"
+
+
+def replies_to_retired():
+    """Entries 0A take their replies, once; the numbers are given again in their turn, and not to 0A."""
+    yield book_set(100, bytes([0x0A] * 256))
+    for number in range(0, 256, 51):
+        yield from [answered(number), answered(number)]
+    yield from ["book_show"] + [ask(command) for command in BESIDE * 4] + ["book_show"]
+    for last in [0, 127, 255]:
+        yield from [book_set(last, bytes([0x0A] * 256)), ask(0x09), ask(0x0A), ask(0x0D), answered(last), answered(last), ask(0x0A), ask(0x09)]
+        yield from [ask(0x09), ask(0x0A), answered(last), answered(last), ask(0x0A), ask(0x40), "book_show"]
+
+
+def numbers_held_by_retired():
+    """Numbers that 0A holds are passed over, past 255 too; where it holds all but one, this one is given, be it the last."""
+    for last in [0, 254, 255]:
+        for count in [1, 3]:
+            held = bytes(256)
+            for step in range(1, count + 1):
+                held = replaced(held, (last + step) % 256, 0x0A)
+            yield from [book_set(last, held.rstrip(b"\x00")), ask(0x0A), ask(0x09), ask(0x0A), ask(0x0B), answered((last + 1) % 256), "book_show"]
+        for free, nothing in [(last, 0x00), ((last + 255) % 256, 0x0D)]:
+            yield book_set(last, replaced(bytes([0x0A] * 256), free, nothing))
+            yield from [ask(0x0A), answered(free), ask(0x09), ask(0x09), ask(0x0A), answered(free), answered(free)]
+
+
+def filled_by_asking():
+    """A book filled with all that may still be asked, 0A tried here and there; its refusals, and numbers used again in their turn."""
+    yield "book_fresh"
+    for number in range(256):
+        yield ask(ASKED[number % len(ASKED)])
+        if number % 32 == 9:
+            yield ask(0x0A)
+    yield from ["book_show", ask(0x01), ask(0x40), ask(0x0A), ask(0x00), ask(0x02), ask(0xFF), "book_show"]
+    for number in [7, 255, 0, 7, 128, 6, 127]:
+        yield answered(number)
+    for command in [0x0A, 0xA9, 0xA9, 0xA9, 0x0A, 0xA9, 0xA9, 0xA9, 0xA9, 0x0A]:
+        yield ask(command)
+    yield "book_show"
+
+
+def retired_book_runs():
+    """Asks and replies as they come on books handed in, with 0A in both."""
+    chance = Chance(16)
+    for _ in range(3):
+        last = chance.pick([0, 127, 255, chance.below(256)])
+        held = bytes(chance.pick([0x0A, 0x0A, chance.pick(ASKED), chance.below(256)]) for _ in range(chance.pick([5, 254, 255, 256])))
+        yield book_set(last, held)
+        for _ in range(36):
+            if chance.one_in(2):
+                yield answered(chance.pick([last, (last + 1) % 256, chance.below(256)]))
+            else:
+                yield ask(chance.pick([0x0A, chance.pick(ASKED), chance.pick(ASKED)]))
+        yield "book_show"
+
+
+def retired_command():
+    for part in [retired_datagrams(), retired_faults(), retired_relays(), retired_writing(), retired_values(), refused_asks(), asks_of_a_full_book(),
+                 replies_to_retired(), numbers_held_by_retired(), filled_by_asking(), retired_book_runs()]:
+        yield from part
+
+
+# Lines
+
+def read_from_line(stream):
+    """A request line fed whole and closed; then its longer items read as datagrams, where those of 0A are marked."""
+    yield from request_line([stream])
+    for _, run in opinion.items("request", stream):
+        if len(run) > 1:
+            yield call("request", run)
+
+
+def cut_retired_lines():
+    """A frame alone, and one with a 04 in front that makes its sequence number the command: in any two parts, and byte by byte."""
+    for stream in [plain(3, 0x0A), bytes([0x04]) + plain(0x0A, 0x0A) + bytes([0x0A])]:
+        for place in range(len(stream) + 1):
+            yield from request_line([stream[:place], stream[place:]])
+        yield from request_line(single(stream))
+
+
+# Lines with 0A on them: good ones among all shapes, neighbours and unknown commands; wrong sums, around good frames too; arguments that are not 0;
+# noise around, and frames that begin and do not end.
+RETIRED_LINES = [
+    plain(1, 0x0A) + plain(2, 0x0A) + plain(3, 0x09) + plain(4, 0x0A) + basic(5, 0x1A, [15, 0, 0, 0]) + plain(6, 0x0A),
+    plain(1, 0x0A) + unicast(2, bytes([10] * 6)) + plain(3, 0x0A) + colour(0x10, bytes([10] * 4), 4) + plain(5, 0x0A) + colour(0x80, bytes(6), 6),
+    plain(1, 0x02) + plain(2, 0x0A) + plain(3, 0x13) + plain(4, 0x0B),
+    spoilt(plain(1, 0x0A)) + plain(2, 0x0A),
+    bytes([0x04, 0x00, 0x0A]) + plain(5, 0x0A) + bytes([0x04, 0x00, 0x0A, 0x00]) + plain(6, 0x09) + bytes([0x04, 0x00, 0x09]) + plain(7, 0x0A),
+    bytes([0x04, 0x00, 0x0E, 0x01, 0xFE, 0x80]) + plain(5, 0x0A) + bytes([0x04, 0x00, 0x40, 0x06]) + plain(6, 0x0A),
+    basic(1, 0x0A, [1, 0, 0, 0]) + basic(2, 0x0A, [0, 0, 0, 0x80]) + basic(3, 0x09, [0, 1, 0, 0]) + basic(4, 0x0A, [0, 0, 0xFF, 0]) + plain(5, 0x0A),
+    bytes([0x0A, 0xFF, 0x00]) + plain(1, 0x0A) + bytes([0x0A, 0x0A, 0x03]) + plain(2, 0x0A) + bytes([0x04, 0x0A, 0x0A, 0x00]),
+    plain(0x04, 0x0A)[1:] + plain(0x0A, 0x0A) + bytes([0x04]) + plain(0x0A, 0x09) + bytes([0x04]) + plain(0x0A, 0x0A),
+    frame_of(0x0E, 0x0A) + plain(0x0E, 0x0A) + plain(0x0E, 0x0A)[:7],
+]
+
+
+def settled_retired():
+    """What the rule says of a frame at every length, with its sum, with another, and with an argument that is not 0."""
+    for frame in [plain(9, 0x0A), spoilt(plain(9, 0x0A)), basic(9, 0x0A, [0, 0, 0, 1])]:
+        for size in range(len(frame) + 1):
+            yield call("settle_request", frame[:size])
+            yield call("item_request", [size % 2], frame[:size])
+        yield call("settle_request", frame + b"\x04")
+
+
+def closed_retired_lines():
+    """A frame closed before its command, behind it and before its sum; and closed once and fed on from what is still held."""
+    for size in [2, 3, 7]:
+        yield from request_line([plain(3, 0x0A)[:size]])
+    reader = opinion.Reader("request")
+    yield "fresh_request"
+    yield from fed(reader, bytes([0x04, 0x04, 0x0A]))
+    for part in [bytes(5), plain(3, 0x0A)[:5], plain(3, 0x0A)]:
+        yield "close_request"
+        reader.close()
+        yield from fed(reader, part)
+    yield from closed(reader)
+
+
+# What a reader of the request line may hold, in 12 bytes each: a good frame of 0A and the beginning of another, one with an argument that is not 0,
+# a wrong sum around a good one, and one that begins behind noise.
+RETIRED_STORES = [
+    plain(2, 0x0A) + bytes([0x04, 0x07, 0x0A, 0x00]),
+    basic(3, 0x0A, [0, 2, 0, 0]) + bytes([0x04, 0x07, 0x09, 0x00]),
+    bytes([0x04, 0x00, 0x0A]) + plain(4, 0x0A) + bytes([0x0A]),
+    bytes([0x0A, 0x00, 0xFF, 0x04, 0x0A]) + plain(5, 0x0A)[:7],
+]
+
+
+def retired_readers_handed_in():
+    """Claims about the frame's length and the most that is held, closed at once or fed what is missing and a good frame."""
+    for number, store in enumerate(RETIRED_STORES):
+        yield from held_calls("request", [8, 12][number % 2], store, [], opinion.Reader)
+        yield from held_calls("request", 7, store, [store[7:] + plain(6, 0x0A)], opinion.Reader)
+    yield from held_calls("request", 13, plain(2, 0x0A), [plain(6, 0x0A)], opinion.Reader)
+
+
+def retired_piece(chance):
+    """A piece of a request line with 0A on it."""
+    frame = plain(chance.below(256), 0x0A)
+    return chance.pick([
+        frame,
+        frame,
+        damaged_frame(chance, frame),
+        resummed(damaged_frame(chance, frame)),
+        frame[:1 + chance.below(7)] + plain(chance.below(256), 0x0A),
+        bytes([0x04, chance.below(256), 0x0A]) + some_request(chance),
+        bytes(chance.pick([0x04, 0x0A, 0x0A, 0x00, chance.below(256)]) for _ in range(1 + chance.below(8))),
+        some_request(chance),
+        colour_piece(chance),
+    ])
+
+
+def retired_streams():
+    """Streams by chance with 0A on them."""
+    chance = Chance(17)
+    for _ in range(8):
+        yield from stream_calls("request", chance, retired_piece, opinion.Reader)
+
+
+def retired_on_lines():
+    """The last line of all is a request with 0A, and has no line feed."""
+    for part in [cut_retired_lines(), settled_retired(), closed_retired_lines(), retired_readers_handed_in(), retired_streams()]:
+        yield from part
+    for stream in RETIRED_LINES:
+        yield from read_from_line(stream)
+    yield call("request", plain(0, 0x0A))
 
 
 KINDS = [
@@ -2942,6 +3211,8 @@ KINDS = [
     ("colour requests (W-202)", colours),
     ("colour requests on the line (W-202)", colours_on_lines),
     ("lines that are no call of colour requests (W-202)", no_colour_calls),
+    ("the retired command (W-210)", retired_command),
+    ("the retired command on the line (W-210)", retired_on_lines),
 ]
 
 

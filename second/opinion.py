@@ -209,6 +209,17 @@ def known(command):
     return command in [UNICAST, COLOUR] or command in BASIC
 
 
+# Document 02, W-210: "The source calls 0A legacy, since its reply does not say which group it means." It stays a known command. The source says
+# the same of 02 and 13, which are unknown.
+SCENE_LIST = 0x0A
+
+
+# "New requests with 0A are no longer written."
+def retired(command):
+    """Whether the command is retired."""
+    return command == SCENE_LIST
+
+
 # "The length of a request now depends on the colour type as well as the command."
 def request_sizes(command):
     """The place of the byte that says how long the frame of a known command is, and the frame's size for each value it may have there: the
@@ -232,9 +243,10 @@ def fits(command, arguments):
 
 
 # Requests: behind the command stand the four arguments, or of request 40 the length byte, the port and the address, or of a colour request the
-# address, the level, the colour type and the colour data.
+# address, the level, the colour type and the colour data. W-210, of 0A: "Request lines and stored byte runs that contain it still read as before,
+# marked as retired": the mark stands in the reading of a request, since the items of a line are numbers and bytes.
 
-Request = namedtuple("Request", "sequence command arguments")
+Request = namedtuple("Request", "sequence command arguments retired")
 
 
 def read_request(datagram):
@@ -249,12 +261,14 @@ def read_request(datagram):
     refuse(6, exclusive_or(datagram) != 0)
     arguments = datagram[3:-1]
     refuse(7, not fits(command, arguments))
-    return Request(datagram[1], command, arguments)
+    return Request(datagram[1], command, arguments, retired(command))
 
 
+# W-210: "17, retired, comes after 3 and before 4, in writing and asking only".
 def write_basic(sequence, command, arguments, buffer):
     """Writes a basic request into the lent buffer; gives the count."""
     refuse(3, command not in BASIC)
+    refuse(17, retired(command))
     refuse(7, not fits(command, arguments))
     return write_frame([REQUEST_LEAD, sequence, command], arguments, buffer)
 
@@ -431,10 +445,11 @@ class Book:
         self.held = bytearray(held) + bytes(SEQUENCE_NUMBERS - len(held))
 
     # "Takes the first free number after the last one given, counting past 255 to 0 and trying the last one itself at
-    # the end; it becomes the last."
+    # the end; it becomes the last." W-210: "17, retired, comes after 3 and before 4", so before 9 too.
     def ask(self, command):
         """Writes the command down; gives its number."""
         refuse(3, not known(command))
+        refuse(17, retired(command))
         in_turn = [(self.last + step) % SEQUENCE_NUMBERS for step in range(1, SEQUENCE_NUMBERS + 1)]
         free = [number for number in in_turn if not known(self.held[number])]
         refuse(9, not free)
@@ -442,7 +457,7 @@ class Book:
         self.held[self.last] = command
         return self.last
 
-    # "A reply with an awaited number frees it and returns its command."
+    # "A reply with an awaited number frees it and returns its command." W-210: "a book entry already asked with 0A still takes its reply".
     def answer(self, number):
         """Strikes the number out; gives its command."""
         command = self.held[number]
@@ -879,7 +894,7 @@ def request_fields(datagram):
         target, level, type_ = request.arguments[:3]
         return fields + ["target", target] + lights(target) + ["level", level] + colour_fields(type_, request.arguments[3:])
     meaning = RULES[BASIC[request.command]].meaning
-    return fields + ["arguments", request.arguments] + meaning(*request.arguments)
+    return fields + ["arguments", request.arguments] + meaning(*request.arguments) + (["retired"] if request.retired else [])
 
 
 def colour_fields(type_, data):
@@ -1036,7 +1051,7 @@ def parts_of(group):
 
 
 # "Reading a written frame gives its fields back; writing a frame that was read gives its bytes back": a relay reads a
-# datagram and writes what it read.
+# datagram and writes what it read. W-210: "Demand 2's writing half leaves 0A out", so that a request with 0A is read and then refused with 17.
 
 def relay_request(datagram, buffer):
     request = read_request(datagram)
@@ -1082,7 +1097,7 @@ ERROR_CODE_NAMES = {
 REFUSAL_NAMES = {
     0: "OK", 1: "TOO_SHORT", 2: "BAD_LEAD", 3: "UNKNOWN_COMMAND", 4: "BAD_LENGTH_BYTE", 5: "BAD_LENGTH", 6: "BAD_SUM",
     7: "BAD_ARGUMENT", 8: "NO_ROOM", 9: "NO_NUMBER_FREE", 10: "NOT_AWAITED", 11: "BAD_DATA_SIZE", 12: "NONE_THERE",
-    14: "UNKNOWN_VERSION", 15: "BAD_RECORD", 16: "EARLIER_TIME", 20: "NOT_RISING",
+    14: "UNKNOWN_VERSION", 15: "BAD_RECORD", 16: "EARLIER_TIME", 17: "RETIRED", 20: "NOT_RISING",
 }
 
 KIND_NAMES = [

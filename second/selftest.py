@@ -341,6 +341,97 @@ STATED_LATER = [
     ("capture_run 00 00 01 07 /", "15"),
     ("capture_run_at 00 00 01 07 / 00 00", "0 in 0 refused 1 used 6"),
     ("capture_show", "0 used 6 bytes 01 00 03 00 00 00 records 2 first 263 last 264 counts 0 0 0 2 0 0 0 0 0 0 0 mark 6 last 5"),
+    # W-210: what contains 0A is "still read as before, marked as retired"; the sequence numbers 0 and 255
+    ("request 04 00 0A 00 00 00 00 0E", "0 sequence 0 command 0A arguments 00 00 00 00 nothing retired"),
+    ("request 04 FF 0A 00 00 00 00 F1", "0 sequence 255 command 0A arguments 00 00 00 00 nothing retired"),
+    # its neighbours, the one that says the group, and 0A in other places: not marked
+    ("request 04 00 09 00 00 00 00 0D", "0 sequence 0 command 09 arguments 00 00 00 00 nothing"),
+    ("request 04 00 0B 00 00 00 00 0F", "0 sequence 0 command 0B arguments 00 00 00 00 nothing"),
+    ("request 04 0A 1A 0A 00 00 00 1E", "0 sequence 10 command 1A arguments 0A 00 00 00 group 10"),
+    ("request 04 0A 40 06 0A 0A 0A 0A 0A 0A 48", "0 sequence 10 command 40 port 2570 address 10 10 10 10"),
+    ("request 04 0A 0E 0A 0A 20 0A 0A 20", "0 sequence 10 command 0E target 10 gear 10 level 10 tc 2570"),
+    # the source says the same of 02 and 13, which are unknown
+    ("request 04 00 02 0A 00 00 00 0C", "3"),
+    ("request 04 00 13 01 00 00 00 16", "3"),
+    # reading never gives 17: 1, 2, 5, 6, 7 in this order, and without a mark
+    ("request 05 00 0A 01 00 00 00", "1"),
+    ("request 05 00 0A 01 00 00 00 00 00", "2"),
+    ("request 04 00 0A 01 00 00 00 00 00", "5"),
+    ("request 04 00 0A 00 00 00 00 0E 00", "5"),
+    ("request 04 00 0A 01 00 00 00 0E", "6"),
+    ("request 04 00 0A 00 00 00 00 0F", "6"),
+    ("request 04 00 0A 01 00 00 00 0F", "7"),
+    ("request 04 00 0A 00 00 00 80 8E", "7"),
+    # "New requests with 0A are no longer written": 17, "after 3 and before 4", so before 7 and 8
+    ("write_basic 00 0A 00 00 00 00 / FF FF FF FF FF FF FF FF", "17 before FF FF FF FF FF FF FF FF after FF FF FF FF FF FF FF FF"),
+    ("write_basic 00 0A 00 00 00 00 /", "17 before after"),
+    ("write_basic FF 0A 01 00 00 00 / FF FF FF FF FF FF FF FF", "17 before FF FF FF FF FF FF FF FF after FF FF FF FF FF FF FF FF"),
+    ("write_basic 0A 0A FF FF FF FF / FF", "17 before FF after FF"),
+    ("write_basic 00 02 0A 00 00 00 /", "3 before after"),
+    ("write_basic 00 13 01 00 00 00 /", "3 before after"),
+    ("write_basic 0A 09 00 00 00 00 / FF FF FF FF FF FF FF FF", "0 count 8 before FF FF FF FF FF FF FF FF after 04 0A 09 00 00 00 00 07"),
+    ("write_basic 00 0B 01 00 00 00 /", "7 before after"),
+    ("write_basic 00 0B 00 00 00 00 /", "8 before after"),
+    # a relay reads, and then writes: 17 stands behind the refusals of reading and before 8
+    ("relay_request 04 00 0A 00 00 00 00 0E / FF FF FF FF FF FF FF FF", "17 before FF FF FF FF FF FF FF FF after FF FF FF FF FF FF FF FF"),
+    ("relay_request 04 00 0A 00 00 00 00 0E /", "17 before after"),
+    ("relay_request 04 00 0A 00 00 00 00 /", "1 before after"),
+    ("relay_request 04 00 0A 00 00 00 00 0F /", "6 before after"),
+    ("relay_request 04 00 0A 01 00 00 00 0F /", "7 before after"),
+    ("relay_request 04 00 0B 00 00 00 00 0F /", "8 before after"),
+    ("relay_request 04 00 0B 00 00 00 00 0F / FF FF FF FF FF FF FF FF", "0 count 8 before FF FF FF FF FF FF FF FF after 04 00 0B 00 00 00 00 0F"),
+    # asking: 17, and nothing moves
+    ("book_fresh", "0"),
+    ("ask 0A", "17"),
+    ("book_show", "0 last 255 held"),
+    ("ask 09", "0 number 0"),
+    ("ask 0A", "17"),
+    ("ask 02", "3"),
+    ("ask 13", "3"),
+    ("ask 0B", "0 number 1"),
+    ("book_show", "0 last 1 held 00 09 01 0B"),
+    # "a book entry already asked with 0A still takes its reply", once; until then its number is held
+    ("book_set 00 / 0A 0A 09 0A 00 0A", "0"),
+    ("ask 0A", "17"),
+    ("ask 0B", "0 number 4"),
+    ("answer 01", "0 command 0A"),
+    ("answer 01", "10"),
+    ("ask 09", "0 number 6"),
+    ("answer 03", "0 command 0A"),
+    ("ask 0A", "17"),
+    ("book_show", "0 last 6 held 00 0A 02 09 04 0B 05 0A 06 09"),
+    # a full book: 17 before 9
+    ("book_set 07 /" + " 0A" * 256, "0"),
+    ("ask 0A", "17"),
+    ("ask 09", "9"),
+    ("ask 02", "3"),
+    ("answer 08", "0 command 0A"),
+    ("ask 0A", "17"),
+    ("ask 09", "0 number 8"),
+    ("ask 0A", "17"),
+    ("ask 09", "9"),
+    # `known 0A`, `shape 0A`, `fits` with 0A and lines are as before; so is its name
+    ("known 0A", "0 known"),
+    ("shape 0A", "0 basic bare"),
+    ("fits 0A 00 00 00 00", "0 fits"),
+    ("fits 0A 00 00 00 01", "0 outside"),
+    ("name 01 0A /" + " 00" * 19, "0 count 19 before" + " 00" * 19 + " after 51 55 45 52 59 5F 53 43 45 4E 45 5F 4E 55 4D 42 45 52 53"),
+    ("fresh_request", "0"),
+    ("feed_request 04 00 0A", "0 taken 3 nothing"),
+    ("feed_request 00 00 00 00 0E 04", "0 taken 5 item 0 count 8 bytes 04 00 0A 00 00 00 00 0E"),
+    ("feed_request 04 00 0A 01 00 00 00 0F 04", "0 taken 8 item 7 count 8 bytes 04 00 0A 01 00 00 00 0F"),
+    ("feed_request 04 00 0A 00 00 00 00 0F 04", "0 taken 8 item 6 count 1 bytes 04"),
+    ("show_request", "0 held 7 bytes 00 0A 00 00 00 00 0F"),
+    ("fresh_request", "0"),
+    ("settle_request 04 00 0A 00 00 00 00 0E 04", "0 item 0 count 8 by 8"),
+    ("settle_request 04 00 0A 00 00 00 00", "0 more"),
+    ("item_request 00 / 04 00 0A 00 00 00 00 0E", "0 item 0 count 8"),
+    ("item_request 01 / 04 00 0A 00 00 00 00", "0 item 1 count 1"),
+    # the name of 17, whose byte is 11; 18 and 23 have none
+    ("name 00 11 / 00 00 00 00 00 00 00 00", "0 count 7 before 00 00 00 00 00 00 00 00 after 52 45 54 49 52 45 44 00"),
+    ("name 00 11 / 00 00 00 00 00 00", "8 before 00 00 00 00 00 00 after 00 00 00 00 00 00"),
+    ("name 00 12 /", "7 before after"),
+    ("name 00 17 /", "7 before after"),
     # W-213: "occupied events (type 6), button presses (0), holds (1)"; gaps of 4 and 7 in the first season, none with two in the others
     (capture_of(9, record_at(1, OCCUPIED) + record_at(2, PRESS) + record_at(5, OCCUPIED) + record_at(5, HOLD) + record_at(6, UNOCCUPIED)
                 + record_at(12, OCCUPIED) + record_at(33, HOLD) + record_at(33, HOLD) + record_at(60, OCCUPIED)), "0"),
@@ -496,10 +587,10 @@ def empty_capture(version, size):
     return capture
 
 
-def answered(append, seconds, datagram):
-    """The number of an append's answer and its bytes in use."""
+def answered(asked, *given):
+    """The number of an answer, and what it gives: the bytes in use of an append, the number or the command of a book."""
     try:
-        return 0, append(seconds, datagram)
+        return 0, asked(*given)
     except opinion.Refusal as refusal:
         return refusal.number, None
 
@@ -752,6 +843,95 @@ class SelfTest(unittest.TestCase):
             for _, run in found + [(None, stream)]:
                 self.assertEqual(read_as_request(run), list(opinion.items("request", run)) == [(0, run)])
         self.assertEqual((seen, most), ({0, 1, 2, 3, 4, 6, 7}, 12))
+
+    def test_retired_is_marked(self):
+        bench = opinion.Bench()
+        for command in range(256):
+            for sequence in [0, 10, 255]:
+                words = bench.answer(cases.call("request", cases.frame_of(command, sequence)).encode("ascii")).split()
+                self.assertEqual(words[0], "0" if opinion.known(command) else "3")
+                self.assertEqual("retired" in words, command == 0x0A)
+        # but for the mark, 0A reads as 09 does, whatever the bytes
+        chance = cases.Chance(20)
+        read = 0
+        for _ in range(500):
+            frame = cases.basic(chance.below(256), 0x0A, [chance.pick([0, 0, 0, 0, 0, 0, 0, 1, 255]) for _ in range(4)])
+            if chance.one_in(3):
+                frame = chance.pick([frame[:-1], frame + b"\x00", cases.spoilt(frame), cases.replaced(frame, 0, 0x05)])
+            neighbour = frame[:2] + b"\x09" + frame[3:7] + bytes(byte ^ 0x03 for byte in frame[7:8]) + frame[8:]
+            answer = bench.answer(cases.call("request", frame).encode("ascii"))
+            before = bench.answer(cases.call("request", neighbour).encode("ascii"))
+            self.assertEqual(answer, before.replace("command 09", "command 0A") + (" retired" if before[0] == "0" else ""))
+            read += before[0] == "0"
+        self.assertGreater(read, 50)
+
+    def test_retired_is_not_written(self):
+        chance = cases.Chance(21)
+        bench = opinion.Bench()
+        written = set()
+        for number in range(10000):
+            command = 0x0A if number % 5 == 0 else chance.pick(cases.KNOWN) if number % 5 > 1 else chance.below(256)
+            arguments = chance.pick(cases.good_arguments(command, max) if command in opinion.BASIC else [bytes(4)])
+            if chance.one_in(4):
+                arguments = cases.damaged_frame(chance, arguments)
+            buffer = cases.pattern(chance.pick([0, 7, 8, 8, 8, 9]))
+            words = bench.answer(cases.call("write_basic", bytes([chance.below(256), command]) + arguments, buffer).encode("ascii")).split()
+            self.assertEqual(words[0] == "17", command == 0x0A)
+            if words[0] == "0":
+                frame = bytes.fromhex("".join(words[words.index("after") + 1:]))[:8]
+                reading = bench.answer(cases.call("request", frame).encode("ascii"))
+                self.assertEqual((reading[:2], "retired" in reading), ("0 ", False))
+                written.add(command)
+            else:
+                self.assertEqual(words[words.index("after") + 1:], opinion.text([buffer]).split())
+        self.assertEqual(written, set(opinion.BASIC) - {0x0A})
+        for command in range(256):
+            frame = cases.frame_of(command, command)
+            number = bench.answer(cases.call("relay_request", frame, bytes(len(frame))).encode("ascii")).split()[0]
+            self.assertEqual(number, "17" if command == 0x0A else "0" if opinion.known(command) else "3")
+
+    def test_retired_is_not_asked(self):
+        chance = cases.Chance(22)
+        known = {0x01, 0x08, 0x09, 0x0A, 0x0B, 0x0C, 0x0E, 0x1A, 0x1B, 0x1C, 0x1D, 0x20, 0x31, 0x32, 0x33, 0x34, 0x40, 0x41} | set(range(0xA0, 0xAF))
+        seen = set()
+        for _ in range(200):
+            few = chance.one_in(2)
+            held = bytearray(chance.pick([0x0A, 0x09, chance.below(256) if few else 0x40]) for _ in range(256))
+            last = chance.below(256)
+            book = opinion.Book(last, bytes(held))
+            for _ in range(30):
+                command, number = chance.pick([0x0A, 0x09, chance.below(256)]), chance.below(256)
+                asked = answered(book.ask, command)
+                free = [place for place in list(range(last + 1, 256)) + list(range(last + 1)) if held[place] not in known]
+                if command not in known:
+                    self.assertEqual(asked, (3, None))
+                elif command == 0x0A:
+                    self.assertEqual(asked, (17, None))
+                elif not free:
+                    self.assertEqual(asked, (9, None))
+                else:
+                    self.assertEqual(asked, (0, free[0]))
+                    last, held[free[0]] = free[0], command
+                self.assertEqual(answered(book.answer, number), (0, held[number]) if held[number] in known else (10, None))
+                held[number] = 0 if held[number] in known else held[number]
+                self.assertEqual((book.last, book.held), (last, held))
+                seen.add(asked[0])
+        self.assertEqual(seen, {0, 3, 9, 17})
+
+    def test_retired_lines_cut_anywhere(self):
+        chance = cases.Chance(23)
+        bench = opinion.Bench()
+        marked = 0
+        for stream in cases.RETIRED_LINES + [cases.stream_of(cases.retired_piece, chance) for _ in range(200)]:
+            found = list(opinion.items("request", stream))
+            for parts in [[stream[:place], stream[place:]] for place in range(len(stream) + 1)] + [cases.single(stream)]:
+                self.assertEqual(list(items_call_by_call("request", parts)), found)
+            for number, run in found:
+                answer = bench.answer(cases.call("request", run).encode("ascii"))
+                self.assertEqual(answer[:2] == "0 ", number == 0)
+                self.assertEqual(answer.endswith(" retired"), number == 0 and run[2] == 0x0A)
+                marked += answer.endswith(" retired")
+        self.assertGreater(marked, 100)
 
     def test_appends_by_the_letter_and_by_marks(self):
         for version, size, appends in runs_of_appends(cases.Chance(8)):

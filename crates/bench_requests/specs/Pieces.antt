@@ -1,6 +1,7 @@
 -- The answers of this family by value, as the code has them, and that they say the texts of docs/BENCH.md.
 use Prim.Native.Nat.{ℕ}
 use mathlib.Core.Path.{_≡_, refl, sym, ap, ap₂, _∙_}
+use mathlib.Core.Bool.{Bool, true, false}
 use mathlib.Core.List.{List, [], _∷_, _++_, append-nil}
 use Rattle.text.specs.Text.{decimalOf}
 use Rattle.words.specs.Words.{before, wordIn, text}
@@ -16,10 +17,10 @@ use Rattle.request.specs.declared.Reading.{Reading}
 use Rattle.request.specs.declared.Reading.the-variants.{Accepted, Refused}
 use Rattle.bench_requests.specs.declared.Asked.{Asked}
 use Rattle.bench_requests.specs.declared.Asked.the-variants.{Reading as a·Reading, Target as a·Target}
-use Rattle.bench_requests.specs.Requests.{lightsTexts, meaningTexts, colourTexts, contentsTexts, readingTexts, askedTexts}
+use Rattle.bench_requests.specs.Requests.{lightsTexts, meaningTexts, colourTexts, contentsTexts, markTexts, readingTexts, askedTexts}
 
 abbrev pub names : List ℕ
-names = text " nothing, group , emit , device , instance , scene , universe , channel , address , mask , start , gear , broadcast, no target, seconds , level ,0 sequence , command , port , ,0, target , xy , tc , rgbwaf "
+names = text " nothing, group , emit , device , instance , scene , universe , channel , address , mask , start , gear , broadcast, no target, seconds , level ,0 sequence , command , port , ,0, target , xy , tc , rgbwaf , retired"
 
 abbrev pub lightsPieces : ℕ → Target → ℕ → ℕ → Pieces
 lightsPieces a (lit·Gear n) c z = three a 0 0xB2 n c z
@@ -54,6 +55,10 @@ lastPieces (Xy x y) = three 0 0 0 0 0 0
 lastPieces (Tc t) = three 0 0 0 0 0 0
 lastPieces (Rgbwaf red green blue white amber free) = three 0x132 white 0x132 amber 0x132 free
 
+abbrev pub markPieces : Bool → Pieces
+markPieces true = three 0x191 0 0 0 0 0
+markPieces false = three 0 0 0 0 0 0
+
 abbrev pub headPieces : Reading → Pieces
 headPieces (Accepted q) = byted 0x102 (q .sequence) 0x113 0 0 0 (q .command)
 headPieces (Refused k) = three 4 k 0 0 0 0
@@ -62,9 +67,9 @@ abbrev pub askedPieces : Asked → Pieces
 askedPieces (a·Reading r) = headPieces r
 askedPieces (a·Target l) = lightsPieces 0x141 l 0 0
 
--- what stands behind an answer's pieces: the contents of a request that is accepted
+-- what stands behind an answer's pieces: the contents of a request that is accepted, and its mark
 abbrev pub readingRest : Reading → List (List ℕ)
-readingRest (Accepted q) = contentsTexts (q .contents)
+readingRest (Accepted q) = contentsTexts (q .contents) ++ markTexts (q .retired)
 readingRest (Refused k) = []
 
 abbrev pub restOf : Asked → List (List ℕ)
@@ -115,6 +120,11 @@ colour-said (Xy x y) = refl
 colour-said (Tc t) = refl
 colour-said (Rgbwaf red green blue white amber free) = refl
 
+mark-said : (m : Bool) → piecesTexts names (markPieces m) ≡ markTexts m
+unfolding before wordIn
+mark-said true = refl
+mark-said false = refl
+
 reading-said : (r : Reading) → piecesTexts names (headPieces r) ++ readingRest r ≡ readingTexts r
 unfolding before wordIn
 reading-said (Accepted q) = refl
@@ -135,6 +145,9 @@ level-of l n {p} e = ap (piecesTexts names) e ∙ lights-then l 0xF2 n
 
 pub colour-of : (c : Colour) {p q : Pieces} → p ≡ firstPieces c → q ≡ lastPieces c → piecesTexts names p ++ piecesTexts names q ≡ colourTexts c
 colour-of c {p} {q} e f = ap₂ (λ (x y : Pieces). piecesTexts names x ++ piecesTexts names y) e f ∙ colour-said c
+
+pub mark-of : (m : Bool) {p : Pieces} → p ≡ markPieces m → piecesTexts names p ≡ markTexts m
+mark-of m {p} e = ap (piecesTexts names) e ∙ mark-said m
 
 pub asked-of : (a : Asked) {p : Pieces} → p ≡ askedPieces a → piecesTexts names p ++ restOf a ≡ askedTexts a
 asked-of a {p} e = ap (λ (y : Pieces). piecesTexts names y ++ restOf a) e ∙ asked-said a

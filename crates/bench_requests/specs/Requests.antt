@@ -1,5 +1,6 @@
 -- docs/BENCH.md, "Datagrams": the answers of `request`, case by case.
 use Prim.Native.Nat.{ℕ}
+use mathlib.Core.Bool.{Bool, true, false}
 use mathlib.Core.List.{List, [], _∷_, _++_}
 use Rattle.text.specs.Text.{hexOf, decimalOf}
 use Rattle.words.specs.Words.{text}
@@ -62,9 +63,16 @@ contentsTexts (Unicast port d) =
     ∷ text " " ∷ decimalOf (d .1) ∷ text " " ∷ decimalOf (d .2) ∷ text " " ∷ decimalOf (d .3) ∷ []
 contentsTexts (coloured t l n c) = colouredTexts (t .0) l n c
 
--- "`sequence N command CC`", and the contents
+-- "Behind all of it ` retired` where the command is retired"
+abbrev pub markTexts : Bool → List (List ℕ)
+markTexts true = text " retired" ∷ []
+markTexts false = []
+
+-- "`sequence N command CC`", the contents and the mark
 abbrev pub requestTexts : Request → List (List ℕ)
-requestTexts q = text "0 sequence " ∷ decimalOf (q .sequence) ∷ text " command " ∷ hexOf (q .command) ∷ contentsTexts (q .contents)
+requestTexts q =
+    text "0 sequence " ∷ decimalOf (q .sequence) ∷ text " command " ∷ hexOf (q .command)
+    ∷ (contentsTexts (q .contents) ++ markTexts (q .retired))
 
 abbrev pub readingTexts : Reading → List (List ℕ)
 readingTexts (Accepted q) = requestTexts q

@@ -4,7 +4,7 @@ ghost use mathlib.Core.Path.{_≡_};
 ghost use Rattle.lent.specs.All.{PutsAll};
 ghost use Rattle.bench_say.specs.Pieces.{piecesTexts};
 ghost use Rattle.bench_requests.specs.Requests.{contentsTexts, colouredTexts, askedTexts};
-ghost use Rattle.bench_requests.specs.Pieces.{names, lightsPieces, meaningPieces, firstPieces, lastPieces, headPieces, askedPieces, readingRest};
+ghost use Rattle.bench_requests.specs.Pieces.{names, lightsPieces, meaningPieces, firstPieces, lastPieces, markPieces, headPieces, askedPieces, readingRest};
 use bench_say::Pieces;
 use colour::Colour;
 use meaning::Meaning;
@@ -69,6 +69,8 @@ const TC: usize = 0x172;
 
 const RGBWAF: usize = 0x182;
 
+const RETIRED: usize = 0x191;
+
 fn put(out: &mut [u8], at: usize, p: Pieces) -> usize
     ensures { λ r. ⌜ PutsAll (piecesTexts names p) (now (out .entry)) at r (now (out .exit)) ⌝ }
 {
@@ -76,7 +78,8 @@ fn put(out: &mut [u8], at: usize, p: Pieces) -> usize
         out,
         at,
         b" nothing, group , emit , device , instance , scene , universe , channel , address , mask , \
-start , gear , broadcast, no target, seconds , level ,0 sequence , command , port , ,0, target , xy , tc , rgbwaf ",
+start , gear , broadcast, no target, seconds , level ,0 sequence , command , port , ,0, target , xy , tc , rgbwaf , \
+retired",
         p,
     )
 }
@@ -268,6 +271,16 @@ fn contents(out: &mut [u8], at: usize, c: Contents) -> usize
     }
 }
 
+// The mark of a request whose command is retired.
+fn mark(retired: bool) -> Pieces
+    ensures { λ p. ⌜ p ≡ markPieces retired ⌝ }
+{
+    if retired {
+        return Pieces(RETIRED, 0, 0, 0, 0, 0, 0);
+    }
+    Pieces(0, 0, 0, 0, 0, 0, 0)
+}
+
 // How the answer of a reading begins.
 fn head(r: Reading) -> Pieces
     ensures { λ p. ⌜ p ≡ headPieces r ⌝ }
@@ -287,14 +300,15 @@ fn answer(a: Asked) -> Pieces
     }
 }
 
-// The contents of a request that is accepted.
+// The contents of a request that is accepted, and its mark.
 fn accepted(out: &mut [u8], at: usize, r: Reading) -> usize
     ensures { λ e. ⌜ PutsAll (readingRest r) (now (out .entry)) at e (now (out .exit)) ⌝ }
 {
     match r {
         Reading::Accepted(q) => {
             let c = q.contents;
-            contents(out, at, c)
+            let e = contents(out, at, c);
+            put(out, e, mark(q.retired))
         }
         Reading::Refused(_) => at,
     }

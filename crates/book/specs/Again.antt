@@ -12,6 +12,7 @@ use native.Mathlib.Omega.{arith}
 use Rattle.refusal.specs.Test.{not-both}
 use Rattle.refusal.specs.Answer.{Answer, refused, full}
 use Rattle.command.specs.Command.{isKnown, mayAsk}
+use Rattle.command.specs.Known.{may-ask-known, may-ask-current}
 use Rattle.book.specs.declared.Book.{Book}
 use Rattle.book.specs.Book.{vacant, entry, holds, numberFor, noted, commandOf, freed}
 use Rattle.book.specs.Search.{search-here, between, number-full, command-full}
@@ -113,7 +114,7 @@ module _ (c : ℕ) (may : mayAsk c ≡ true) where
   unfolding numberFor
   begun-gives k b h s =
       let free : not (holds (b .asked) k) ≡ true = ap (λ (e : ℕ). not (isKnown e)) (s .beyond k (omega arith)) ∙ ap not vacant-free in
-      rw may (sym (search-here (b .asked) (b .last) 256 k (holds (b .asked) k) (omega arith) (omega (arith, s .latest)) refl free))
+      rw (may-ask-known c may, may-ask-current c may) (sym (search-here (b .asked) (b .last) 256 k (holds (b .asked) k) (omega arith) (omega (arith, s .latest)) refl free))
 
   begun : (k : ℕ) → k ≤ 256 → Begun k (bookOf (replicate k (ask c)))
   unfolding run

@@ -1,12 +1,13 @@
--- Document 01, "The book of unanswered requests": what asking and replying answer, and the book afterwards.
+-- Document 01, "The book of unanswered requests": what asking and replying answer, and the book afterwards. Document 02, W-210: "17, retired,
+-- comes after 3 and before 4, in writing and asking only."
 use Prim.Native.Nat.{ℕ, zero, suc, _+_, _%_}
 use mathlib.Core.Path.{_≡_}
-use mathlib.Core.Bool.{Bool}
+use mathlib.Core.Bool.{Bool, not}
 use mathlib.Core.List.{List}
 use lib.ListN.{getD, set, replicate}
 use Rattle.refusal.specs.Test.{pick}
 use Rattle.refusal.specs.Answer.{Answer, refused, full, demand}
-use Rattle.command.specs.Command.{isKnown, mayAsk}
+use Rattle.command.specs.Command.{isKnown, isRetired}
 use Rattle.book.specs.declared.Book.{Book}
 use Rattle.book.specs.declared.Asked.{Asked}
 use Rattle.book.specs.declared.Replied.{Replied}
@@ -41,9 +42,12 @@ firstFree asked n zero = refused 9
 firstFree asked n (suc k) = let later = firstFree asked (next n) k in pick (holds asked (next n)) later (full (next n))
 
 -- "Asking with a known command takes the first free number after the last one given, .. trying the last one itself at the end":
--- that is the 256th number after it. Which commands may be asked is told by crate command
+-- that is the 256th number after it. A command that is not known is 3, a retired one 17, whatever the book holds
 unfoldable pub numberFor : Book → ℕ → Answer ℕ
-numberFor b c = demand (mayAsk c) 3 (firstFree (b .asked) (b .last) 256)
+numberFor b c =
+    demand (isKnown c) 3
+    (demand (not (isRetired c)) 17
+    (firstFree (b .asked) (b .last) 256))
 
 -- "it becomes the last"; a refusal changes nothing
 abbrev pub noted : Book → ℕ → Answer ℕ → Book

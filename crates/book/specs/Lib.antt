@@ -5,6 +5,7 @@ pub mod One
 pub mod Run
 pub mod Awaited
 pub mod Again
+pub mod Retired
 -- what only serves proofs
 pub mod Search
 pub mod Sound

@@ -9,7 +9,8 @@ use native.Mathlib.Omega.{arith}
 use borrow.Author.Tests.{not-true, not-false}
 use Rattle.refusal.specs.Test.{pick, pick-elim, clash, not-both}
 use Rattle.refusal.specs.Answer.{refused, full, demand, demand-elim, full-one}
-use Rattle.command.specs.Command.{isKnown, mayAsk}
+use Rattle.command.specs.Command.{isKnown, isRetired, mayAsk}
+use Rattle.command.specs.Known.{retired-known, may-ask-known, may-ask-current, current-may-ask}
 use Rattle.book.specs.declared.Book.{Book}
 use Rattle.book.specs.Book.{next, entry, holds, firstFree, numberFor, commandOf}
 
@@ -80,26 +81,45 @@ unfolding firstFree
 search-full asked n zero h = refl
 search-full asked n (suc k) h = rw (h (next n) (omega arith)) (search-full asked (next n) k h)
 
--- what asking answers, for any book. A command that may not be asked is 3, also where no number is free
-pub number-three : (b : Book) (c : ℕ) → (numberFor b c ≡ refused 3) ↔ (mayAsk c ≡ false)
+-- what asking answers, for any book. A command that is not known is 3 and a retired one 17, also where no number is free
+pub number-three : (b : Book) (c : ℕ) → (numberFor b c ≡ refused 3) ↔ (isKnown c ≡ false)
 unfolding numberFor
-number-three b c = (to (mayAsk c), λ u. rw u)
+number-three b c = (to (isKnown c) (not (isRetired c)), λ u. rw u)
   where
-    to : (t : Bool) → demand t 3 (firstFree (b .asked) (b .last) 256) ≡ refused 3 → t ≡ false
-    to true e = absurd (omega (arith, search-nine (b .asked) (b .last) 256 3 e))
-    to false e = refl
+    to : (t u : Bool) → demand t 3 (demand u 17 (firstFree (b .asked) (b .last) 256)) ≡ refused 3 → t ≡ false
+    to true true e = absurd (omega (arith, search-nine (b .asked) (b .last) 256 3 e))
+    to true false e = clash (cc)
+    to false u e = refl
+
+pub number-seventeen : (b : Book) (c : ℕ) → (numberFor b c ≡ refused 17) ↔ (isRetired c ≡ true)
+unfolding numberFor
+number-seventeen b c = (to (isKnown c) (isRetired c), λ u. rw (retired-known c u, u))
+  where
+    to : (t u : Bool) → demand t 3 (demand (not u) 17 (firstFree (b .asked) (b .last) 256)) ≡ refused 17 → u ≡ true
+    to t true e = refl
+    to true false e = absurd (omega (arith, search-nine (b .asked) (b .last) 256 17 e))
+    to false false e = clash (cc)
+
+-- only a command that may be asked is given a number
+pub number-may : (b : Book) (c n : ℕ) → numberFor b c ≡ full n → (mayAsk c ≡ true) × (firstFree (b .asked) (b .last) 256 ≡ full n)
+unfolding numberFor
+number-may b c n =
+    demand-elim (isKnown c) 3
+    (λ k. demand-elim (not (isRetired c)) 17
+    (λ r e. (current-may-ask c k (not-true (isRetired c) r), e)))
 
 module _ (b : Book) (c : ℕ) (hl : b .last < 256) where
   -- "takes the first free number after the last one given"
   pub number-full : (n : ℕ) → numberFor b c ≡ full n → (mayAsk c ≡ true) × Found (b .asked) (b .last) n
-  unfolding numberFor
-  number-full n = demand-elim (mayAsk c) 3 (λ k e. (k, search-found (b .asked) (b .last) 256 n hl e))
+  number-full n e =
+      let m = number-may b c n e in
+      (m .0, search-found (b .asked) (b .last) 256 n hl (m .1))
 
   -- "It refuses with 9 exactly if no number is free."
   pub number-nine : mayAsk c ≡ true → (j : ℕ) → (numberFor b c ≡ refused j) ↔ ((j ≡ 9) × ((t : ℕ) → t < 256 → holds (b .asked) t ≡ true))
   unfolding numberFor
-  number-nine k j =
-      rw k (
+  number-nine m j =
+      rw (may-ask-known c m, may-ask-current c m) (
         (λ e. (search-nine (b .asked) (b .last) 256 j e, λ t ht. search-none (b .asked) (b .last) 256 j hl e t ht (omega arith))),
         λ h. search-full (b .asked) (b .last) 256 (h .1) ∙ ap refused (sym (h .0)),
       )

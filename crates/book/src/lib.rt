@@ -1,6 +1,6 @@
 // The book of unanswered requests: which sequence numbers are awaited, and the command asked under each. A book goes in by
-// value and comes back beside the answer. It leans on crate command for which commands are known and which may be asked.
-// Document 01, "The book of unanswered requests", with refusals 3, 9 and 10.
+// value and comes back beside the answer. It leans on crate command for which commands are known and which are retired.
+// Document 01, "The book of unanswered requests", with refusals 3, 9 and 10; document 02, W-210, with 17.
 ghost use mathlib.Core.Path.{_≡_};
 ghost use Rattle.book.specs.Book.{freshBook, firstFree, numberFor, saidGiven, Asks, Replies};
 
@@ -63,18 +63,21 @@ fn first_free(asked: &[u8; 256], last: u8) -> Given
     Given::Refused(9)
 }
 
-// The number for a request with this command. One that may not be asked is 3, also where no number is free.
+// The number for a request with this command. One that is not known is 3 and a retired one 17, also where no number is free.
 fn number_for(b: Book, command: u8) -> Given
     ensures { λ r. ⌜ saidGiven r ≡ numberFor b command ⌝ }
 {
-    if !command::may_ask(command) {
+    if !command::known(command) {
         return Given::Refused(3);
+    }
+    if command::retired(command) {
+        return Given::Refused(17);
     }
     first_free(&b.asked, b.last)
 }
 
 // Asks with a command: the number given is awaited from then on, and is the last. Where it is refused, with 3 for an unknown
-// command or 9 where all numbers are awaited, the book is as it was.
+// command, 17 for a retired one or 9 where all numbers are awaited, the book is as it was.
 pub fn ask(b: Book, command: u8) -> Asked
     ensures { λ r. ⌜ Asks b command r ⌝ }
 {
@@ -93,8 +96,8 @@ pub fn ask(b: Book, command: u8) -> Asked
     }
 }
 
-// Takes a reply's sequence number: it is free from then on, and its command is the answer. Where it is refused, with 10 for a
-// number that is not awaited, the book is as it was.
+// Takes a reply's sequence number: it is free from then on, and its command is the answer, a retired one too. Where it is refused, with 10
+// for a number that is not awaited, the book is as it was.
 pub fn reply(b: Book, number: u8) -> Replied
     ensures { λ r. ⌜ Replies b number r ⌝ }
 {

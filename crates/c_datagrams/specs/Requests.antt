@@ -2,7 +2,7 @@
 use Prim.Native.Nat.{ℕ}
 use lib.ListN.{getD}
 use lib.Dec.{eqb}
-use Rattle.refusal.specs.Test.{pick}
+use Rattle.refusal.specs.Test.{pick, flag}
 use Rattle.refusal.specs.Answer.{Answer, refused, full}
 use Rattle.command.specs.Colours.{xyType, tcType, rgbwafType}
 use Rattle.colour.specs.Colour.{Hue, hue, typeOf}
@@ -110,8 +110,8 @@ colourOut a t l h =
     }
 
 -- a request before its contents are told
-abbrev pub contentless : ℕ → ℕ → ℕ → WickRequest
-contentless n s k =
+abbrev pub contentless : ℕ → ℕ → ℕ → ℕ → WickRequest
+contentless n s k m =
     record {
       refusal = n;
       sequence = s;
@@ -121,14 +121,15 @@ contentless n s k =
       c = 0;
       d = 0;
       address = noAddress;
+      retired = m;
       port = 0;
       meaning = noMeaning;
       colour = noColour;
     }
 
 -- the arguments and their meaning, or the port and the address, or the colour; what the others have is 0
-abbrev pub insideOut : ℕ → ℕ → Inside → WickRequest
-insideOut s k (arguments a b c d m) =
+abbrev pub insideOut : ℕ → ℕ → ℕ → Inside → WickRequest
+insideOut s k m (arguments a b c d e) =
     record {
       refusal = 0;
       sequence = s;
@@ -138,11 +139,12 @@ insideOut s k (arguments a b c d m) =
       c = c;
       d = d;
       address = noAddress;
+      retired = m;
       port = 0;
-      meaning = meaningOut m;
+      meaning = meaningOut e;
       colour = noColour;
     }
-insideOut s k (address p i j g h) =
+insideOut s k m (address p i j g h) =
     record {
       refusal = 0;
       sequence = s;
@@ -152,11 +154,12 @@ insideOut s k (address p i j g h) =
       c = 0;
       d = 0;
       address = addressed i j g h;
+      retired = m;
       port = p;
       meaning = noMeaning;
       colour = noColour;
     }
-insideOut s k (coloured t lights l h) =
+insideOut s k m (coloured t lights l h) =
     record {
       refusal = 0;
       sequence = s;
@@ -166,6 +169,7 @@ insideOut s k (coloured t lights l h) =
       c = 0;
       d = 0;
       address = noAddress;
+      retired = m;
       port = 0;
       meaning = noMeaning;
       colour = colourOut t lights l h;
@@ -173,5 +177,5 @@ insideOut s k (coloured t lights l h) =
 
 -- a refusal: every other field is 0
 abbrev pub requestOut : Answer Heard → WickRequest
-requestOut (refused k) = contentless k 0 0
-requestOut (full (heard s k x)) = insideOut s k x
+requestOut (refused k) = contentless k 0 0 0
+requestOut (full (heard s k r x)) = insideOut s k (flag r) x

@@ -2,6 +2,7 @@
 // crates request, reply, error, event, target and colour into them, and addresses back. A refusal is its number by document 01, 0 stands for none,
 // and every other field of a refused call is 0. Each contract is an equation over what the answer says.
 ghost use mathlib.Core.Path.{_≡_};
+ghost use Rattle.refusal.specs.Test.{flag};
 ghost use Rattle.refusal.specs.Answer.{full};
 ghost use Rattle.frame.specs.Written.{said as saidWrote};
 ghost use Rattle.target.specs.Target.{saidTarget};
@@ -86,7 +87,8 @@ pub struct WickColour {
     pub tc: u16,
 }
 
-// A request: its four arguments and what they mean, or for command 40 its port and address, or for command 0E its colour.
+// A request: its four arguments and what they mean, or for command 40 its port and address, or for command 0E its colour. retired is 1 where
+// its command is retired, else 0.
 #[repr(C)]
 pub struct WickRequest {
     pub refusal: u8,
@@ -97,6 +99,7 @@ pub struct WickRequest {
     pub c: u8,
     pub d: u8,
     pub address: WickAddress,
+    pub retired: u8,
     pub port: u16,
     pub meaning: WickMeaning,
     pub colour: WickColour,
@@ -281,8 +284,8 @@ fn colour_out(target: LineTarget, lights: Target, level: u8, colour: Colour) -> 
 }
 
 // A request before its contents are told.
-fn contentless(refusal: u8, sequence: u8, command: u8) -> WickRequest
-    ensures { λ w. ⌜ w ≡ contentless refusal sequence command ⌝ }
+fn contentless(refusal: u8, sequence: u8, command: u8, retired: u8) -> WickRequest
+    ensures { λ w. ⌜ w ≡ contentless refusal sequence command retired ⌝ }
 {
     WickRequest {
         refusal,
@@ -298,16 +301,24 @@ fn contentless(refusal: u8, sequence: u8, command: u8) -> WickRequest
             b2: 0,
             b3: 0,
         },
+        retired,
         port: 0,
         meaning: means(0, NO_AIM, 0, 0, 0, 0),
         colour: colourless(0, 0, NO_AIM, 0),
     }
 }
 
+// A mark as a number.
+fn mark_out(retired: bool) -> u8
+    ensures { λ r. ⌜ r ≡ flag retired ⌝ }
+{
+    if retired { 1 } else { 0 }
+}
+
 fn accepted_request(r: Request) -> WickRequest
     ensures { λ w. ⌜ w ≡ requestOut (full (saidRequest r)) ⌝ }
 {
-    let mut w = contentless(0, r.sequence, r.command);
+    let mut w = contentless(0, r.sequence, r.command, mark_out(r.retired));
     let contents = r.contents;
     match contents {
         Contents::Basic { arguments, meaning } => {
@@ -349,7 +360,7 @@ pub fn request_out(r: request::Reading) -> WickRequest
 {
     match r {
         request::Reading::Accepted(x) => accepted_request(x),
-        request::Reading::Refused(k) => contentless(k, 0, 0),
+        request::Reading::Refused(k) => contentless(k, 0, 0, 0),
     }
 }
 

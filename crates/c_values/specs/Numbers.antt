@@ -1,15 +1,9 @@
 -- Numbers as a program in C is handed them: a refusal by its number and 0, or 0 and the number.
 use Prim.Native.Nat.{ℕ}
-use mathlib.Core.Bool.{Bool, true, false}
 use Rattle.refusal.specs.Answer.{Answer, refused, full}
 use Rattle.target.specs.declared.LineTarget.{LineTarget}
 use Rattle.target.specs.declared.Device.{Device}
 use Rattle.c_values.specs.declared.WickNumber.{WickNumber}
-
--- a test as a number
-abbrev pub flag : Bool → ℕ
-flag true = 1
-flag false = 0
 
 abbrev pub numberOut : Answer ℕ → WickNumber
 numberOut (refused k) = record { refusal = k; number = 0 }

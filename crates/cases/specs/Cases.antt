@@ -1,12 +1,13 @@
 -- Document 01, "Bench cases": "Proved of the written definitions, as a single list under a single claim, are the cases marked P."
 use Prim.Native.Nat.{ℕ}
 use mathlib.Core.Path.{_≡_, refl}
+use mathlib.Core.Bool.{false}
 use mathlib.Core.List.{List, [], _∷_, _++_}
 use Rattle.refusal.specs.Answer.{Answer, refused, full}
 use Rattle.sum.specs.Sum.{sumFrom}
 use Rattle.order.specs.Order.{numberBy}
 use Rattle.target.specs.Target.{broadcast}
-use Rattle.command.specs.Command.{shapeOf}
+use Rattle.command.specs.Command.{shapeOf, isRetired}
 use Rattle.ranges.specs.Arguments.{fits}
 use Rattle.meaning.specs.Meaning.{group, filter, timers, scene, meaningOf}
 use Rattle.request.specs.Said.{Heard, heard, arguments, address}
@@ -87,23 +88,23 @@ abbrev pub cases : List Case
 cases =
     -- accepted, group 10
     request (0x04 ∷ 0x00 ∷ 0x01 ∷ 0x0A ∷ 0x00 ∷ 0x00 ∷ 0x00 ∷ 0x0F ∷ [])
-    (full (heard 0 0x01 (arguments 10 0 0 0 (group 10))))
+    (full (heard 0 0x01 false (arguments 10 0 0 0 (group 10))))
     -- accepted, port 8811
     ∷ request (0x04 ∷ 0x00 ∷ 0x40 ∷ 0x06 ∷ 0x22 ∷ 0x6B ∷ 0xC0 ∷ 0xA8 ∷ 0x0A ∷ 0x0A ∷ 0x63 ∷ [])
-    (full (heard 0 0x40 (address 8811 192 168 10 10)))
+    (full (heard 0 0x40 false (address 8811 192 168 10 10)))
     -- accepted, mask 264, two types, lowest 3; with last byte CB (as printed): 6
     ∷ request (0x04 ∷ 0x00 ∷ 0x31 ∷ 0x00 ∷ 0xFF ∷ 0x01 ∷ 0x08 ∷ 0xC3 ∷ [])
-    (full (heard 0 0x31 (arguments 0 255 1 8 (filter 0 255 264))))
+    (full (heard 0 0x31 false (arguments 0 255 1 8 (filter 0 255 264))))
     ∷ types-named 264 2
     ∷ lowest-type 264 (full 3)
     ∷ request (0x04 ∷ 0x00 ∷ 0x31 ∷ 0x00 ∷ 0xFF ∷ 0x01 ∷ 0x08 ∷ 0xCB ∷ []) (refused 6)
     -- accepted; printed 48: 6
     ∷ request (0x04 ∷ 0x00 ∷ 0x0C ∷ 0x40 ∷ 0x00 ∷ 0x00 ∷ 0x01 ∷ 0x49 ∷ [])
-    (full (heard 0 0x0C (arguments 64 0 0 1 (timers 64 1))))
+    (full (heard 0 0x0C false (arguments 64 0 0 1 (timers 64 1))))
     ∷ request (0x04 ∷ 0x00 ∷ 0x0C ∷ 0x40 ∷ 0x00 ∷ 0x00 ∷ 0x01 ∷ 0x48 ∷ []) (refused 6)
     -- accepted, broadcast
     ∷ request (0x04 ∷ 0x00 ∷ 0xA1 ∷ 0xFF ∷ 0x00 ∷ 0x00 ∷ 0x01 ∷ 0x5B ∷ [])
-    (full (heard 0 0xA1 (arguments 255 0 0 1 (scene broadcast 1))))
+    (full (heard 0 0xA1 false (arguments 255 0 0 1 (scene broadcast 1))))
     -- accepted, no data
     ∷ reply (0xA0 ∷ 0x00 ∷ 0x00 ∷ 0xA0 ∷ []) (full (record { kind = 0xA0; sequence = 0; n = 0 }))
     ∷ reply-data (0xA0 ∷ 0x00 ∷ 0x00 ∷ 0xA0 ∷ []) []
@@ -136,6 +137,6 @@ cases =
 -- THE CLAIM
 pub bench : AllHold cases
 unfolding
-    sumFrom numberBy shapeOf fits meaningOf readBasic readUnicast readRequest readReply bit howMany lowest settle itemsUpTo textOf hexes decimalIn
+    sumFrom numberBy shapeOf isRetired fits meaningOf readBasic readUnicast readRequest readReply bit howMany lowest settle itemsUpTo textOf hexes decimalIn
 bench =
     (refl, (refl, (refl, (refl, (refl, (refl, (refl, (refl, (refl, (refl, (refl, (refl, (refl, (refl, (refl, (refl, (refl, (refl, (refl, (refl, (refl, tt)))))))))))))))))))))

@@ -2,12 +2,13 @@
 -- example, whose type 00 its list lacks; every refusal in its place; and what a request line makes of them.
 use Prim.Native.Nat.{ℕ}
 use mathlib.Core.Path.{refl}
+use mathlib.Core.Bool.{false}
 use mathlib.Core.List.{List, [], _∷_, _++_}
 use Rattle.refusal.specs.Answer.{Answer, refused, full}
 use Rattle.sum.specs.Sum.{sumFrom}
 use Rattle.order.specs.Order.{numberBy}
 use Rattle.target.specs.Target.{Aim, gear, group, broadcast}
-use Rattle.command.specs.Command.{shapeOf}
+use Rattle.command.specs.Command.{shapeOf, isRetired}
 use Rattle.command.specs.Colours.{widthsOf, dataBytes}
 use Rattle.colour.specs.Colour.{Hue, hue}
 use Rattle.request.specs.Said.{Heard, heard, coloured}
@@ -21,7 +22,7 @@ abbrev pub asks : List ℕ → List ℕ
 asks l = 0x04 ∷ 0x00 ∷ 0x0E ∷ l
 
 abbrev pub hears : ℕ → Aim → ℕ → Hue → Answer Heard
-hears t aim level h = full (heard 0 0x0E (coloured t aim level h))
+hears t aim level h = full (heard 0 0x0E false (coloured t aim level h))
 
 -- the printed example, with some type and some sum: red on gear 1
 abbrev pub printedRed : ℕ → ℕ → List ℕ
@@ -69,6 +70,6 @@ colourCases =
 
 -- THE CLAIM
 pub colours-told : AllHold colourCases
-unfolding sumFrom numberBy shapeOf dataBytes widthsOf readColoured readRequest itemsUpTo settle
+unfolding sumFrom numberBy shapeOf isRetired dataBytes widthsOf readColoured readRequest itemsUpTo settle
 colours-told =
     (refl, (refl, (refl, (refl, (refl, (refl, (refl, (refl, (refl, (refl, (refl, (refl, (refl, (refl, (refl, (refl, tt))))))))))))))))

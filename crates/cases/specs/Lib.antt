@@ -3,3 +3,4 @@ pub mod Cases
 pub mod Scenes
 pub mod Events
 pub mod Colours
+pub mod Retired

@@ -1,11 +1,14 @@
 -- Document 01, "Requests and their argument ranges", with document 02, W-202: the known command numbers, and "each other number is unknown".
+-- Document 02, W-210: "Retire the old scene list."
 use Prim.Native.Nat.{ℕ}
-use mathlib.Core.Bool.{Bool, true, false}
+use mathlib.Core.Path.{_≡_}
+use mathlib.Core.Bool.{Bool, true, false, not, _&&_}
 use mathlib.Core.List.{List, [], _∷_}
-use lib.Dec.{leb}
+use lib.Dec.{leb, eqb}
 use lib.ListN.{getD}
 use Rattle.refusal.specs.Test.{pick}
 use Rattle.command.specs.declared.Rule.the-variants.{Group, Emit, Bare, Timers, GroupScene, Channel, Filter, Query, Gear, Inhibit, Scene, Level, Lights, Address, Status}
+use Rattle.command.specs.declared.Command.{Command}
 use Rattle.command.specs.declared.Shape.{Shape}
 use Rattle.command.specs.declared.Shape.the-variants.{Unknown, Basic, Unicast, Colour}
 
@@ -123,9 +126,21 @@ hasFrame Colour = true
 abbrev pub isKnown : ℕ → Bool
 isKnown c = hasFrame (shapeOf c)
 
--- "Asking with a known command": the commands that may be asked, and those that may be written. Each known one, as yet
+-- W-210: "The source calls 0A legacy": it is known and read as before, and marked
+abbrev pub retiredCommand : ℕ
+retiredCommand = 0x0A
+
+unfoldable pub isRetired : ℕ → Bool
+isRetired c = eqb c retiredCommand
+
+-- "New requests with 0A are no longer written": the commands that may be asked, and those that may be written
 unfoldable pub mayAsk : ℕ → Bool
-mayAsk c = isKnown c
+mayAsk c = isKnown c && not (isRetired c)
 
 unfoldable pub mayWrite : ℕ → Bool
-mayWrite c = isKnown c
+mayWrite c = isKnown c && not (isRetired c)
+
+-- all that is decided of a command: its numbers and its mark
+pub record Decided (c : ℕ) (x : Command) : Type 0 where
+  pub numbers : numbersOf (x .0) ≡ numbersIn c
+  pub mark : x .1 ≡ isRetired c

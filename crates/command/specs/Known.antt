@@ -1,19 +1,21 @@
--- What the table says of every command: the numbers lose nothing, a known command is a byte, only 40 is dynamic and only 0E a colour request.
+-- What the table says of every command: the numbers lose nothing, a known command is a byte, only 40 is dynamic, only 0E a colour request, and
+-- only 0A retired.
 use Prim.Native.Nat.{ℕ, _≤_, _<_}
 use mathlib.Core.Path.{_≡_, refl, sym, ap, _∙_}
-use mathlib.Core.Bool.{Bool, true, false, _&&_}
+use mathlib.Core.Bool.{Bool, true, false, not, _&&_}
 use mathlib.Core.List.{List, [], _∷_}
 use lib.Dec.{leb, ltb, eqb}
 use lib.ListN.{getD}
-use borrow.Author.Tests.{leb-true, ltb-true, eqb-true, eq-eqb}
+use borrow.Author.Tests.{leb-true, ltb-true, eqb-true, eq-eqb, not-true}
 use native.Mathlib.Omega.{arith}
 use Rattle.refusal.specs.Test.{pick, clash, both-left, both-right}
 use Rattle.command.specs.declared.Rule.{Rule}
 use Rattle.command.specs.declared.Rule.the-variants.{Group, Emit, Bare, Timers, GroupScene, Channel, Filter, Query, Gear, Inhibit, Scene, Level, Lights, Address, Status}
+use Rattle.command.specs.declared.Command.{Command}
 use Rattle.command.specs.declared.Shape.{Shape}
 use Rattle.command.specs.declared.Shape.the-variants.{Unknown, Basic, Unicast, Colour}
 use Rattle.command.specs.Count.{countBelow}
-use Rattle.command.specs.Command.{Numbers, shape-rule, Row, row, find, rows, numbersIn, shapeNo, ruleNo, numbersOf, shapes, shapeBy, shapeOf, hasFrame, isKnown, mayAsk, mayWrite}
+use Rattle.command.specs.Command.{Numbers, shape-rule, Row, row, find, rows, numbersIn, shapeNo, ruleNo, numbersOf, shapes, shapeBy, shapeOf, hasFrame, isKnown, isRetired, mayAsk, mayWrite, Decided}
 
 -- a shape is told by the number of its rule
 pub rule-back : (x : Shape) → getD shapes (ruleNo x) Unknown ≡ x
@@ -117,16 +119,7 @@ colour-only c e =
     found (λ c n. ruleNo (shapeBy n) ≡ 17 → c ≡ 0x0E) (λ c e. clash (cc)) (λ lo hi s r. isOnly 17 0x0E lo hi r) (only 17 0x0E) c rows refl
     (ap ruleNo e)
 
--- what may be asked or written is known
-pub may-ask-known : (c : ℕ) → mayAsk c ≡ true → isKnown c ≡ true
-unfolding mayAsk
-may-ask-known c e = e
-
-pub may-write-known : (c : ℕ) → mayWrite c ≡ true → isKnown c ≡ true
-unfolding mayWrite
-may-write-known c e = e
-
--- a command with a rule is known; as yet each known one may be asked and written
+-- a command with a rule is known
 pub basic-known : (c : ℕ) (rule : Rule) → shapeOf c ≡ Basic rule → isKnown c ≡ true
 basic-known c rule e = rw e
 
@@ -141,10 +134,59 @@ colour-shape = refl
 pub colour-known : isKnown 0x0E ≡ true
 colour-known = rw colour-shape
 
-pub known-may-ask : (c : ℕ) → isKnown c ≡ true → mayAsk c ≡ true
-unfolding mayAsk
-known-may-ask c e = e
+-- W-210: 0A is retired, which is known and has the rule that it had; no other number is
+pub retired-only : (c : ℕ) → isRetired c ≡ true → c ≡ 0x0A
+unfolding isRetired
+retired-only c e = eqb-true c 0x0A e
 
-pub known-may-write : (c : ℕ) → isKnown c ≡ true → mayWrite c ≡ true
+pub retired-shape : (isRetired 0x0A ≡ true) × (shapeOf 0x0A ≡ Basic Bare) × (countBelow isRetired 256 ≡ 1)
+unfolding isRetired shapeOf numbersIn countBelow
+retired-shape = (refl, refl, refl)
+
+pub retired-known : (c : ℕ) → isRetired c ≡ true → isKnown c ≡ true
+retired-known c e = rw (retired-only c e, retired-shape .1)
+
+pub unicast-current : isRetired 0x40 ≡ false
+unfolding isRetired
+unicast-current = refl
+
+pub colour-current : isRetired 0x0E ≡ false
+unfolding isRetired
+colour-current = refl
+
+-- what may be asked or written is known and not retired, and that is all
+pub may-ask-known : (c : ℕ) → mayAsk c ≡ true → isKnown c ≡ true
+unfolding mayAsk
+may-ask-known c e = both-left (isKnown c) (not (isRetired c)) e
+
+pub may-write-known : (c : ℕ) → mayWrite c ≡ true → isKnown c ≡ true
 unfolding mayWrite
-known-may-write c e = e
+may-write-known c e = both-left (isKnown c) (not (isRetired c)) e
+
+pub may-ask-current : (c : ℕ) → mayAsk c ≡ true → isRetired c ≡ false
+unfolding mayAsk
+may-ask-current c e = not-true (isRetired c) (both-right (isKnown c) (not (isRetired c)) e)
+
+pub may-write-current : (c : ℕ) → mayWrite c ≡ true → isRetired c ≡ false
+unfolding mayWrite
+may-write-current c e = not-true (isRetired c) (both-right (isKnown c) (not (isRetired c)) e)
+
+pub current-may-ask : (c : ℕ) → isKnown c ≡ true → isRetired c ≡ false → mayAsk c ≡ true
+unfolding mayAsk
+current-may-ask c k r = rw (k, r)
+
+pub current-may-write : (c : ℕ) → isKnown c ≡ true → isRetired c ≡ false → mayWrite c ≡ true
+unfolding mayWrite
+current-may-write c k r = rw (k, r)
+
+-- 32 of the 33
+pub may-count : (countBelow mayAsk 256 ≡ 32) × (countBelow mayWrite 256 ≡ 32)
+unfolding mayAsk mayWrite isRetired shapeOf countBelow
+may-count = (refl, refl)
+
+-- what is decided of a command leaves no choice
+pub decided-one : {c : ℕ} {x y : Command} → Decided c x → Decided c y → x ≡ y
+decided-one {c} {x} {y} p q =
+    let shape = numbers-one (x .0) (y .0) (p .numbers ∙ sym (q .numbers)) in
+    let mark = p .mark ∙ sym (q .mark) in
+    λ i. record { 0 = shape i; 1 = mark i }

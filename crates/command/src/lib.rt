@@ -1,7 +1,8 @@
-// The 33 known commands: each with the shape of its frame and the rule of its arguments; and the colour types of the colour request.
-// Document 01, "Requests and their argument ranges", and document 02, W-202; source 002, "DALI Colour Request Frame".
+// The 33 known commands: each with the shape of its frame, the rule of its arguments and whether it is retired; and the colour types of the
+// colour request. Document 01, "Requests and their argument ranges", and document 02, W-202 and W-210; source 002, "DALI Colour Request
+// Frame".
 ghost use mathlib.Core.Path.{_≡_};
-ghost use Rattle.command.specs.Command.{numbersOf, numbersIn, isKnown, mayAsk};
+ghost use Rattle.command.specs.Command.{numbersOf, numbersIn, isKnown, isRetired, Decided};
 ghost use Rattle.command.specs.Colours.{dataBytes};
 
 // The rule of a basic request's four arguments, named for what they say; crate ranges has the ranges. The commands that have it stand
@@ -82,30 +83,46 @@ pub enum Shape {
     Colour,
 }
 
+// What is decided of a command number: the shape of its frame with the rule of its arguments, and whether it is "marked as retired".
+pub struct Command(pub Shape, pub bool);
+
+const RETIRED: bool = true;
+
+const UNMARKED: bool = false;
+
+// The one decision: shape_of, known and retired call it, and by them all else that goes by a command.
+pub fn decide(command: u8) -> Command
+    ensures { λ r. ⌜ Decided command r ⌝ }
+{
+    match command {
+        0x01 | 0x1A => Command(Shape::Basic(Rule::Group), UNMARKED),
+        0x08 => Command(Shape::Basic(Rule::Emit), UNMARKED),
+        0x09 | 0x0B | 0x1C | 0x1D | 0x41 => Command(Shape::Basic(Rule::Bare), UNMARKED),
+        0x0A => Command(Shape::Basic(Rule::Bare), RETIRED),
+        0x0C => Command(Shape::Basic(Rule::Timers), UNMARKED),
+        0x0E => Command(Shape::Colour, UNMARKED),
+        0x1B => Command(Shape::Basic(Rule::GroupScene), UNMARKED),
+        0x20 => Command(Shape::Basic(Rule::Channel), UNMARKED),
+        0x31 | 0x33 => Command(Shape::Basic(Rule::Filter), UNMARKED),
+        0x32 => Command(Shape::Basic(Rule::Query), UNMARKED),
+        0x34 | 0xAC => Command(Shape::Basic(Rule::Gear), UNMARKED),
+        0x40 => Command(Shape::Unicast, UNMARKED),
+        0xA0 => Command(Shape::Basic(Rule::Inhibit), UNMARKED),
+        0xA1 => Command(Shape::Basic(Rule::Scene), UNMARKED),
+        0xA2 => Command(Shape::Basic(Rule::Level), UNMARKED),
+        0xA3..=0xA9 => Command(Shape::Basic(Rule::Lights), UNMARKED),
+        0xAA | 0xAD | 0xAE => Command(Shape::Basic(Rule::Address), UNMARKED),
+        0xAB => Command(Shape::Basic(Rule::Status), UNMARKED),
+        _ => Command(Shape::Unknown, UNMARKED),
+    }
+}
+
 // The shape and the rule of a command number.
 pub fn shape_of(command: u8) -> Shape
     ensures { λ r. ⌜ numbersOf r ≡ numbersIn command ⌝ }
 {
-    match command {
-        0x01 | 0x1A => Shape::Basic(Rule::Group),
-        0x08 => Shape::Basic(Rule::Emit),
-        0x09 | 0x0A | 0x0B | 0x1C | 0x1D | 0x41 => Shape::Basic(Rule::Bare),
-        0x0C => Shape::Basic(Rule::Timers),
-        0x0E => Shape::Colour,
-        0x1B => Shape::Basic(Rule::GroupScene),
-        0x20 => Shape::Basic(Rule::Channel),
-        0x31 | 0x33 => Shape::Basic(Rule::Filter),
-        0x32 => Shape::Basic(Rule::Query),
-        0x34 | 0xAC => Shape::Basic(Rule::Gear),
-        0x40 => Shape::Unicast,
-        0xA0 => Shape::Basic(Rule::Inhibit),
-        0xA1 => Shape::Basic(Rule::Scene),
-        0xA2 => Shape::Basic(Rule::Level),
-        0xA3..=0xA9 => Shape::Basic(Rule::Lights),
-        0xAA | 0xAD | 0xAE => Shape::Basic(Rule::Address),
-        0xAB => Shape::Basic(Rule::Status),
-        _ => Shape::Unknown,
-    }
+    let c = decide(command);
+    c.0
 }
 
 // Whether a command number is one of the 33.
@@ -121,11 +138,12 @@ pub fn known(command: u8) -> bool
     }
 }
 
-// Whether a command may be asked (crate book): each known one may, as yet.
-pub fn may_ask(command: u8) -> bool
-    ensures { λ r. ⌜ r ≡ mayAsk command ⌝ }
+// Whether a command is retired: "New requests with 0A are no longer written", nor asked; what was written reads as before.
+pub fn retired(command: u8) -> bool
+    ensures { λ r. ⌜ r ≡ isRetired command ⌝ }
 {
-    known(command)
+    let c = decide(command);
+    c.1
 }
 
 // How many bytes of colour data a colour type has; 0 where the type is not listed.

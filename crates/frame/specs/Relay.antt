@@ -1,5 +1,5 @@
--- A relay: what was read is written again, byte for byte. Demand 2: "writing a frame that was read gives its bytes back, where the
--- buffer is long enough."
+-- A relay of replies or events (crate request has that of requests): what was read is written again, byte for byte. Demand 2: "writing a
+-- frame that was read gives its bytes back, where the buffer is long enough."
 use Prim.Native.Nat.{ℕ}
 use mathlib.Core.List.{List}
 use Rattle.refusal.specs.Answer.{Answer, refused, full}

@@ -31,6 +31,7 @@ table =
     ∷ row 0x0_0E "UNKNOWN_VERSION"
     ∷ row 0x0_0F "BAD_RECORD"
     ∷ row 0x0_10 "EARLIER_TIME"
+    ∷ row 0x0_11 "RETIRED"
     ∷ row 0x0_14 "NOT_RISING"
     -- 1: commands
     ∷ row 0x1_01 "QUERY_GROUP_LABEL"

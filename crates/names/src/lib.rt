@@ -18,7 +18,7 @@ pub const ERROR: u8 = 3;
 pub const EVENT: u8 = 4;
 
 // A row for each name: its kind and its number, as digits of one hexadecimal number.
-const KEYS: [u16; 77] = [
+const KEYS: [u16; 78] = [
     // Refusals
     0x0_00, // OK
     0x0_01, // TOO_SHORT
@@ -36,6 +36,7 @@ const KEYS: [u16; 77] = [
     0x0_0E, // UNKNOWN_VERSION
     0x0_0F, // BAD_RECORD
     0x0_10, // EARLIER_TIME
+    0x0_11, // RETIRED
     0x0_14, // NOT_RISING
     // Commands
     0x1_01, // QUERY_GROUP_LABEL
@@ -108,7 +109,7 @@ fn place(key: u16) -> usize
     ensures { λ r. ⌜ r ≡ placeIn key keys ⌝ }
 {
     let mut k: usize = 0;
-    while k < 77 {
+    while k < 78 {
         if KEYS[k] == key {
             return k;
         }
@@ -123,7 +124,7 @@ pub fn name(kind: u8, number: u8, out: &mut [u8]) -> Wrote
     ensures { λ r. ⌜ Written (nameOf kind number) (now (out .entry)) r (now (out .exit)) ⌝ }
 {
     let k = place((kind as u16) * 256 + (number as u16));
-    if 77 <= k {
+    if 78 <= k {
         return Wrote::Refused(7);
     }
     let n = words::put(
@@ -131,7 +132,7 @@ pub fn name(kind: u8, number: u8, out: &mut [u8]) -> Wrote
         0,
         b"OK TOO_SHORT BAD_LEAD UNKNOWN_COMMAND BAD_LENGTH_BYTE BAD_LENGTH BAD_SUM BAD_ARGUMENT NO_ROOM \
 NO_NUMBER_FREE NOT_AWAITED BAD_DATA_SIZE NONE_THERE UNKNOWN_VERSION BAD_RECORD EARLIER_TIME \
-NOT_RISING QUERY_GROUP_LABEL ENABLE_TPI_EVENT_EMIT QUERY_GROUP_NUMBERS QUERY_SCENE_NUMBERS \
+RETIRED NOT_RISING QUERY_GROUP_LABEL ENABLE_TPI_EVENT_EMIT QUERY_GROUP_NUMBERS QUERY_SCENE_NUMBERS \
 QUERY_PROFILE_NUMBERS QUERY_OCCUPANCY_INSTANCE_TIMERS DALI_COLOUR QUERY_SCENE_NUMBERS_FOR_GROUP \
 QUERY_SCENE_LABEL_FOR_GROUP QUERY_CONTROLLER_VERSION_NUMBER QUERY_CONTROL_GEAR_DALI_ADDRESSES \
 QUERY_DMX_DEVICE_LABEL_BY_NUMBER DALI_ADD_TPI_EVENT_FILTER QUERY_DALI_TPI_EVENT_FILTERS \

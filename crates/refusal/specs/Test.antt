@@ -10,6 +10,11 @@ abbrev pub pick : {A : Type 0} → Bool → A → A → A
 pick true a b = a
 pick false a b = b
 
+-- a test as a number
+abbrev pub flag : Bool → ℕ
+flag true = 1
+flag false = 0
+
 -- a test's value from what is known of its numbers: for `search (tests, needs)`
 pub ruleset tests = (le-leb, lt-leb, le-ltb, lt-ltb, eq-eqb, ne-eqb)
 

@@ -1,11 +1,12 @@
 // Datagrams handed on: each function reads a datagram of its family and writes what was read into a lent buffer. An accepted one comes back
-// byte for byte, or 8 where the buffer is too short; else the answer is the reader's refusal. It leans on crates request, reply and
-// event. Demand 2: "writing a frame that was read gives its bytes back, where the buffer is long enough."
+// byte for byte, or 8 where the buffer is too short; else the answer is the reader's refusal. A request that is marked as retired is
+// written no more: 17. It leans on crates request, reply and event. Demand 2: "writing a frame that was read gives its bytes back, where the
+// buffer is long enough"; document 02, W-210: "Demand 2's writing half leaves 0A out from then on."
 ghost use Rattle.frame.specs.Written.{Written};
 ghost use Rattle.frame.specs.Relay.{relayed};
 ghost use Rattle.request.specs.Said.{fieldsOf, saidRequest};
 ghost use Rattle.request.specs.Reading.{readRequest};
-ghost use Rattle.request.specs.Writing.{writerOf};
+ghost use Rattle.request.specs.Writing.{writerOf, handedOn};
 ghost use Rattle.reply.specs.Reading.{readReply};
 ghost use Rattle.event.specs.Layout.{widthOf};
 ghost use Rattle.event.specs.Reading.{readEvent};
@@ -35,7 +36,7 @@ fn request_again(r: Request, out: &mut [u8]) -> Wrote
 }
 
 pub fn request(s: &[u8], out: &mut [u8]) -> Wrote
-    ensures { λ r. ⌜ Written (relayed (readRequest (now (s .entry))) (now (s .entry))) (now (out .entry)) r (now (out .exit)) ⌝ }
+    ensures { λ r. ⌜ Written (handedOn (readRequest (now (s .entry))) (now (s .entry))) (now (out .entry)) r (now (out .exit)) ⌝ }
 {
     let reading = request::read(s);
     match reading {

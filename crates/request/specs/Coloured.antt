@@ -13,6 +13,7 @@ use Rattle.sum.specs.Sum.{sumOf}
 use Rattle.frame.specs.Frame.{byte}
 use Rattle.target.specs.Target.{isLighting, Aim, lightsOf}
 use Rattle.command.specs.declared.Shape.the-variants.{Colour}
+use Rattle.command.specs.Command.{isRetired}
 use Rattle.command.specs.Colours.{dataBytes, isType}
 use Rattle.command.specs.Length.{lengthOf, colourBytes}
 use Rattle.colour.specs.Colour.{Hue, hueIn, readColour}
@@ -77,6 +78,6 @@ colour-accepts d x t l z g e = rw (t, eq-eqb (length d) (colourBytes (byte 5 d))
 pub judged-outside : (d : List ℕ) → sumOf d ≡ 0 → isLighting (byte 3 d) ≡ false → refused 7 ≡ judged d
 judged-outside d z g = rw (eq-eqb (sumOf d) 0 z, g)
 
-pub judged-accepts : (d : List ℕ) (t : Aim) (x : Hue) → sumOf d ≡ 0 → isLighting (byte 3 d) ≡ true → t ≡ lightsOf (record { 0 = byte 3 d })
-    → x ≡ hueIn (byte 5 d) (colourData d) → full (heard (byte 1 d) (byte 2 d) (coloured (byte 3 d) t (byte 4 d) x)) ≡ judged d
-judged-accepts d t x z g e f = rw (eq-eqb (sumOf d) 0 z, g, e, f)
+pub judged-accepts : (d : List ℕ) (r : Bool) (t : Aim) (x : Hue) → r ≡ isRetired (byte 2 d) → sumOf d ≡ 0 → isLighting (byte 3 d) ≡ true → t ≡ lightsOf (record { 0 = byte 3 d })
+    → x ≡ hueIn (byte 5 d) (colourData d) → full (heard (byte 1 d) (byte 2 d) r (coloured (byte 3 d) t (byte 4 d) x)) ≡ judged d
+judged-accepts d r t x m z g e f = rw (m, eq-eqb (sumOf d) 0 z, g, e, f)

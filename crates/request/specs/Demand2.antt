@@ -1,20 +1,19 @@
 -- Demand 2 for requests (crate frame says what it is).
 use Prim.Native.Nat.{ℕ, _-_, _/_, _%_, _<_}
 use mathlib.Core.Path.{_≡_, refl, sym, ap, _∙_}
-use mathlib.Core.Bool.{true}
+use mathlib.Core.Bool.{Bool, true, false, not}
 use mathlib.Core.List.{List, [], _∷_}
 use lib.ListN.{length, take, drop, length-append}
 use lib.Seq.{take-append-seam}
 use lib.Dec.{leb, ltb, eqb}
-use borrow.Author.Tests.{eqb-true, eq-eqb, ltb-true, lt-ltb}
+use borrow.Author.Tests.{eqb-true, ltb-true, lt-ltb}
 use native.Mathlib.Omega.{arith}
 use Rattle.refusal.specs.Test.{clash, both-left, both-right}
-use Rattle.refusal.specs.Answer.{full, demand-elim, full-one}
+use Rattle.refusal.specs.Answer.{full, demand, demand-elim, full-one}
 use Rattle.sum.specs.Bytes.{Bytes, bytes-none, bytes-cons, bytes-head, bytes-tail, bytes-take, bytes-drop}
 use Rattle.sum.specs.Sum.{sumOf}
 use Rattle.frame.specs.Demand2 as family
 use Rattle.frame.specs.Demand2.{Demand2, demand2}
-use Rattle.frame.specs.Relay.{relayed}
 use Rattle.frame.specs.Written.{Written}
 use Rattle.frame.specs.declared.Wrote.{Wrote}
 use Rattle.frame.specs.Frame.{byte, sealed, sealed-sum, sealed-bytes, opened}
@@ -23,8 +22,8 @@ use Rattle.order.specs.Numbers.{number-of-bytes, bytes-of-number, number-below}
 use Rattle.command.specs.declared.Rule.{Rule}
 use Rattle.command.specs.declared.Shape.{Shape}
 use Rattle.command.specs.declared.Shape.the-variants.{Unknown, Basic, Unicast, Colour}
-use Rattle.command.specs.Command.{shapeOf, numbersIn, mayWrite}
-use Rattle.command.specs.Known.{unicast-only, colour-only, colour-shape, basic-known, unicast-known, colour-known, known-may-write}
+use Rattle.command.specs.Command.{shapeOf, numbersIn, isKnown, isRetired}
+use Rattle.command.specs.Known.{unicast-only, colour-only, colour-shape, basic-known, unicast-known, colour-known, may-write-current, current-may-write}
 use Rattle.command.specs.Colours.{widthsOf, dataBytes, isType}
 use Rattle.command.specs.Listed.{type-bytes}
 use Rattle.command.specs.Length.{colourBytes}
@@ -36,11 +35,12 @@ use Rattle.colour.specs.Laws.{laid-bytes, data-length, hue-back, data-back, hue
 use Rattle.ranges.specs.Arguments.{fits}
 use Rattle.meaning.specs.Meaning.{pair, meaningOf}
 use Rattle.request.specs.Layout.{Fields, basic, unicast, colour, InRange, basic-fits, unicast-fits, colour-fits, commandIn, Writable, head, layout}
-use Rattle.request.specs.Said.{Heard, fieldsOf}
+use Rattle.request.specs.Said.{Heard, fieldsOf, commandOf, markOf}
 use Rattle.request.specs.Reading.{basicHeard, unicastHeard, colourHeard, readBasic, readUnicast, colourData, readColoured, readShape, readRequest}
-use Rattle.request.specs.Reads.{basic-accepts, shape-read}
+use Rattle.request.specs.Reads.{basic-accepts, unicast-accepts, shape-read}
 use Rattle.request.specs.Coloured.{part-length, colour-accepts}
-use Rattle.request.specs.Writing.{basicOf, colourFrame, writerOf, frameOf}
+use Rattle.request.specs.Writing.{basicOf, colourFrame, writerOf, frameOf, handedOn}
+use Rattle.request.specs.Retired.{heard-fields, retired-read, retired-refused, written-current}
 
 -- the datagram is accepted, and gives these fields
 abbrev Reads : List ℕ → Fields → Type 0
@@ -56,21 +56,20 @@ basic-reads rule s k a b c d h f =
       accepted =
           sym
           (shape-read x (Basic rule) (full (basicHeard rule s k a b c d)) (omega arith) refl (sym h)
-          (basic-accepts rule x (meaningOf rule a b c d) refl (sealed-sum (head (basic s k a b c d))) f refl));
+          (basic-accepts rule x (isRetired k) (meaningOf rule a b c d) refl refl (sealed-sum (head (basic s k a b c d))) f refl));
       fields = refl;
     }
 
 unicast-reads : (s port i j k l : ℕ) → port < 65536 → Reads (layout (unicast s port i j k l)) (unicast s port i j k l)
-unfolding readUnicast shapeOf numbersIn
+unfolding shapeOf numbersIn
 unicast-reads s port i j k l p =
     let x : List ℕ = layout (unicast s port i j k l) in
-    let z : sumOf x ≡ 0 = sealed-sum (head (unicast s port i j k l)) in
     record {
       reading = unicastHeard s 0x40 port i j k l;
       accepted =
           sym
           (shape-read x Unicast (full (unicastHeard s 0x40 port i j k l)) (omega arith) refl refl
-          (rw (eq-eqb (sumOf x) 0 z, number-of-bytes 2 port p)));
+          (unicast-accepts x (isRetired 0x40) port refl refl refl (sealed-sum (head (unicast s port i j k l))) (sym (number-of-bytes 2 port p))));
       fields = refl;
     }
 
@@ -112,10 +111,11 @@ read-written (basic s k a b c d) x e = go (shapeOf k) refl e
     go Unicast h e = clash (cc)
     go Colour h e = clash (cc)
     go (Basic rule) h e =
-        demand-elim (fits rule a b c d) 7
+        demand-elim (not (isRetired k)) 17
+        (λ r. demand-elim (fits rule a b c d) 7
         (λ t q.
         let o : layout (basic s k a b c d) ≡ x = full-one q in
-        rw o at (basic-reads rule s k a b c d h t))
+        rw o at (basic-reads rule s k a b c d h t)))
         e
 read-written (unicast s port i j k l) x e =
     demand-elim (ltb port 65536) 7
@@ -134,12 +134,12 @@ read-written (colour s a l (hue k vs)) x e =
 
 -- what may be written is in range, and its frame is its layout
 may-written : (f : Fields) → Writable f → frameOf f ≡ full (layout f)
-may-written f w = go f (w .0)
+may-written f w = go f (w .0) (may-write-current (commandIn f) (w .1))
   where
-    go : (f : Fields) → InRange f → frameOf f ≡ full (layout f)
-    go (basic s k a b c d) (basic-fits rule h t z) = rw (h, t)
-    go (unicast s port i j k l) (unicast-fits p z) = rw (lt-ltb port 65536 p)
-    go (colour s a l (hue k vs)) (colour-fits g c z) = rw (both-left (isType k) (fitting (widthsOf k) vs) c, both-right (isType k) (fitting (widthsOf k) vs) c, g)
+    go : (f : Fields) → InRange f → isRetired (commandIn f) ≡ false → frameOf f ≡ full (layout f)
+    go (basic s k a b c d) (basic-fits rule h t z) m = rw (h, m, t)
+    go (unicast s port i j k l) (unicast-fits p z) m = rw (lt-ltb port 65536 p)
+    go (colour s a l (hue k vs)) (colour-fits g c z) m = rw (both-left (isType k) (fitting (widthsOf k) vs) c, both-right (isType k) (fitting (widthsOf k) vs) c, g)
 
 -- what a reading tells of its datagram
 basic-frame : (d : List ℕ) (rule : Rule) (r : Heard) → Bytes d → byte 0 d ≡ 0x04 → shapeOf (byte 2 d) ≡ Basic rule
@@ -265,28 +265,43 @@ requests =
     demand2 InRange layout readRequest (λ r d. fieldsOf r) Writable frameOf
     accepted-frame frame-bytes frame-sum frame-accepted (λ f w. w .0) may-written read-written
 
--- as yet, what is read may be written
-pub in-range-writable : (f : Fields) → InRange f → Writable f
-in-range-writable f i = (i, go f i)
-  where
-    go : (f : Fields) → InRange f → mayWrite (commandIn f) ≡ true
-    go (basic s k a b c d) (basic-fits rule h t z) = known-may-write k (basic-known k rule h)
-    go (unicast s port i j k l) (unicast-fits p z) = known-may-write 0x40 unicast-known
-    go (colour s a l h) (colour-fits g c z) = known-may-write 0x0E colour-known
+-- so what is written is read, and is not marked
+pub written-unmarked : (f : Fields) (x : List ℕ) → frameOf f ≡ full x → (r : Heard) × (readRequest x ≡ full r) × (markOf r ≡ false)
+written-unmarked f x e =
+    let w = requests .read-written f x e in
+    let r = w .reading in
+    let c : commandIn f ≡ commandOf r = ap commandIn (sym (w .fields)) ∙ heard-fields x r (w .accepted) in
+    (r, w .accepted, retired-read x r (w .accepted) ∙ ap isRetired (sym c) ∙ written-current f x e)
 
--- so a relay hands on what it accepts: the writer's frame for what was read is the datagram itself
-pub relay-frame : (d : List ℕ) (r : Heard) → Bytes d → readRequest d ≡ full r → writerOf (fieldsOf r) ≡ full d
-relay-frame d r bs e =
-    asked (fieldsOf r)
-    (requests .written-read d r bs e (in-range-writable (fieldsOf r) (accepted-frame d r bs e .0)))
+-- what is in range has a known command, so it may be written unless that is retired
+in-range-known : (f : Fields) → InRange f → isKnown (commandIn f) ≡ true
+in-range-known (basic s k a b c d) (basic-fits rule h t z) = basic-known k rule h
+in-range-known (unicast s port i j k l) (unicast-fits p z) = unicast-known
+in-range-known (colour s a l h) (colour-fits g c z) = colour-known
+
+pub current-writable : (f : Fields) → InRange f → isRetired (commandIn f) ≡ false → Writable f
+current-writable f i m = (i, current-may-write (commandIn f) (in-range-known f i) m)
+
+-- so a relay hands on what it accepts, unless it is marked: the writer's frame for what was read is the datagram itself, or 17
+pub relay-frame : (d : List ℕ) (r : Heard) → Bytes d → readRequest d ≡ full r → writerOf (fieldsOf r) ≡ handedOn (full r) d
+relay-frame d r bs e = go (markOf r) refl
   where
     asked : (f : Fields) → frameOf f ≡ full d → writerOf f ≡ full d
     asked (basic s k a b c d) q = q
     asked (unicast s port i j k l) q = demand-elim (ltb port 65536) 7 (λ t q. q) q
     asked (colour s a l h) q = demand-elim (isType (typeOf h)) 4 (λ t. demand-elim (isColour h) 7 (λ c q. q)) q
 
+    mark : markOf r ≡ isRetired (commandIn (fieldsOf r))
+    mark = retired-read d r e ∙ ap isRetired (sym (heard-fields d r e))
+
+    go : (m : Bool) → markOf r ≡ m → writerOf (fieldsOf r) ≡ demand (not m) 17 (full d)
+    go true u = retired-refused (fieldsOf r) (sym mark ∙ u)
+    go false u =
+        asked (fieldsOf r)
+        (requests .written-read d r bs e (current-writable (fieldsOf r) (accepted-frame d r bs e .0) (sym mark ∙ u)))
+
 pub relays : (d : List ℕ) (r : Heard) {out p : List ℕ} {w : Wrote} → Bytes d → readRequest d ≡ full r
-    → Written (writerOf (fieldsOf r)) out w p → Written (relayed (readRequest d) d) out w p
+    → Written (writerOf (fieldsOf r)) out w p → Written (handedOn (readRequest d) d) out w p
 relays d r bs e w = rw e (rw (relay-frame d r bs e) at w)
 
 -- in writing no colour is refused for its type or its values: what is handed over is a colour

@@ -6,6 +6,7 @@ pub mod Writing
 -- what is claimed of it
 pub mod One
 pub mod Demand2
+pub mod Retired
 -- what only serves proofs
 pub mod Reads
 pub mod Coloured

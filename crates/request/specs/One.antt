@@ -22,12 +22,12 @@ contents-back (Colour target lights level tint) = rw (target-back lights, colour
 
 abbrev readingBy : Answer Heard → Reading
 readingBy (refused k) = Refused k
-readingBy (full (heard s c x)) = Accepted (record { sequence = s; command = c; contents = contentsBy x })
+readingBy (full (heard s c r x)) = Accepted (record { sequence = s; command = c; retired = r; contents = contentsBy x })
 
 reading-back : (x : Reading) → readingBy (said x) ≡ x
 reading-back (Refused k) = refl
 reading-back (Accepted r) =
-    ap (λ (x : Contents). Accepted (record { sequence = r .sequence; command = r .command; contents = x }))
+    ap (λ (x : Contents). Accepted (record { sequence = r .sequence; command = r .command; retired = r .retired; contents = x }))
     (contents-back (r .contents))
 
 pub said-one : (x y : Reading) → said x ≡ said y → x ≡ y

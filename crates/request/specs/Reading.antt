@@ -1,5 +1,5 @@
 -- What a datagram says as a request. Document 01, "Refusals, by number": 1, 2, 3, 4, 5, 6, 7, the lowest that applies. Document 02, W-202:
--- "an unlisted colour type is 4, after 3".
+-- "an unlisted colour type is 4, after 3"; W-210: what holds a retired command reads "as before, marked as retired".
 use Prim.Native.Nat.{ℕ, _-_}
 use mathlib.Core.List.{List}
 use lib.ListN.{length, take, drop}
@@ -12,22 +12,26 @@ use Rattle.target.specs.Target.{isLighting, lightsOf}
 use Rattle.command.specs.declared.Rule.{Rule}
 use Rattle.command.specs.declared.Shape.{Shape}
 use Rattle.command.specs.declared.Shape.the-variants.{Unknown, Basic, Unicast, Colour}
-use Rattle.command.specs.Command.{shapeOf}
+use Rattle.command.specs.Command.{shapeOf, isRetired}
 use Rattle.command.specs.Length.{Told, unknown, fixed, tested, lengthOf, basicBytes}
 use Rattle.colour.specs.Colour.{Hue, hueIn}
 use Rattle.ranges.specs.Arguments.{fits}
 use Rattle.meaning.specs.Meaning.{pair, meaningOf}
-use Rattle.request.specs.Said.{Heard, heard, arguments, address, coloured}
+use Rattle.request.specs.Said.{Inside, Heard, heard, arguments, address, coloured}
 
--- what a basic request says, request 40, and a colour request
+-- what a request says: its mark is told by its command
+abbrev pub marked : ℕ → ℕ → Inside → Heard
+marked s k x = heard s k (isRetired k) x
+
+-- a basic request, request 40, and a colour request
 abbrev pub basicHeard : Rule → ℕ → ℕ → ℕ → ℕ → ℕ → ℕ → Heard
-basicHeard rule s k a b c d = heard s k (arguments a b c d (meaningOf rule a b c d))
+basicHeard rule s k a b c d = marked s k (arguments a b c d (meaningOf rule a b c d))
 
 abbrev pub unicastHeard : ℕ → ℕ → ℕ → ℕ → ℕ → ℕ → ℕ → Heard
-unicastHeard s k port i j h l = heard s k (address port i j h l)
+unicastHeard s k port i j h l = marked s k (address port i j h l)
 
 abbrev pub colourHeard : ℕ → ℕ → ℕ → ℕ → Hue → Heard
-colourHeard s k a l h = heard s k (coloured a (lightsOf (record { 0 = a })) l h)
+colourHeard s k a l h = marked s k (coloured a (lightsOf (record { 0 = a })) l h)
 
 -- 3, 4 and 5: the length of a datagram is the one that its frame states
 abbrev pub stated : {A : Type 0} → Told → List ℕ → Answer A → Answer A

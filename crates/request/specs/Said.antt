@@ -1,5 +1,6 @@
--- What an accepted request says: its sequence number, its command, and what lies behind them.
+-- What an accepted request says: its sequence number, its command, whether it is "marked as retired", and what lies behind them.
 use Prim.Native.Nat.{ℕ}
+use mathlib.Core.Bool.{Bool}
 use Rattle.refusal.specs.Answer.{Answer, refused, full}
 use Rattle.target.specs.Target.{Aim, saidTarget}
 use Rattle.colour.specs.Colour.{Hue, saidColour}
@@ -19,13 +20,20 @@ pub data Inside : Type 0 where
   coloured : ℕ → Aim → ℕ → Hue → Inside
 
 pub data Heard : Type 0 where
-  heard : ℕ → ℕ → Inside → Heard
+  heard : ℕ → ℕ → Bool → Inside → Heard
 
 -- its fields
 abbrev pub fieldsOf : Heard → Fields
-fieldsOf (heard s c (arguments i j k l m)) = basic s c i j k l
-fieldsOf (heard s c (address port i j k l)) = unicast s port i j k l
-fieldsOf (heard s c (coloured a t l h)) = colour s a l h
+fieldsOf (heard s c r (arguments i j k l m)) = basic s c i j k l
+fieldsOf (heard s c r (address port i j k l)) = unicast s port i j k l
+fieldsOf (heard s c r (coloured a t l h)) = colour s a l h
+
+-- its command, and its mark
+abbrev pub commandOf : Heard → ℕ
+commandOf (heard s c r x) = c
+
+abbrev pub markOf : Heard → Bool
+markOf (heard s c r x) = r
 
 -- document 01's number and values for each case of an answer
 abbrev pub saidContents : Contents → Inside
@@ -34,7 +42,7 @@ saidContents (Unicast port ip) = address port (ip .0) (ip .1) (ip .2) (ip .3)
 saidContents (Colour target lights level tint) = coloured (target .0) (saidTarget lights) level (saidColour tint)
 
 abbrev pub saidRequest : Request → Heard
-saidRequest r = heard (r .sequence) (r .command) (saidContents (r .contents))
+saidRequest r = heard (r .sequence) (r .command) (r .retired) (saidContents (r .contents))
 
 abbrev pub said : Reading → Answer Heard
 said (Refused k) = refused k

@@ -1,5 +1,7 @@
--- The frame that a writer of requests is to write, or the refusal that it is to give: 3, then 4, then 7; 8 comes with the buffer (crate frame).
+-- The frame that a writer of requests is to write, or the refusal that it is to give: 3, then 17, then 4, then 7; 8 comes with the buffer
+-- (crate frame). Document 02, W-210: "New requests with 0A are no longer written. .. 17, retired, comes after 3 and before 4".
 use Prim.Native.Nat.{ℕ}
+use mathlib.Core.Bool.{not}
 use mathlib.Core.List.{List}
 use lib.Dec.{ltb}
 use Rattle.refusal.specs.Answer.{Answer, refused, full, demand}
@@ -7,12 +9,13 @@ use Rattle.target.specs.declared.LineTarget.{LineTarget}
 use Rattle.target.specs.Target.{isLighting}
 use Rattle.command.specs.declared.Shape.{Shape}
 use Rattle.command.specs.declared.Shape.the-variants.{Unknown, Basic, Unicast, Colour}
-use Rattle.command.specs.Command.{shapeOf}
+use Rattle.command.specs.Command.{shapeOf, isRetired}
 use Rattle.command.specs.Colours.{isType}
 use Rattle.colour.specs.Colour.{Hue, typeOf, isColour}
 use Rattle.ranges.specs.Arguments.{fits}
 use Rattle.meaning.specs.declared.Arguments.{Arguments}
 use Rattle.request.specs.Layout.{Fields, basic, unicast, colour, layout}
+use Rattle.request.specs.Said.{Heard, markOf}
 use Rattle.request.specs.declared.Ipv4.{Ipv4}
 
 -- "unknown command; also 40 given to the writer of basic requests", and 0E: "its command given to the writer of basic requests is 3"
@@ -21,8 +24,9 @@ basicOf Unknown s k x = refused 3
 basicOf Unicast s k x = refused 3
 basicOf Colour s k x = refused 3
 basicOf (Basic rule) s k x =
-    demand (fits rule (x .a) (x .b) (x .c) (x .d)) 7
-    (full (layout (basic s k (x .a) (x .b) (x .c) (x .d))))
+    demand (not (isRetired k)) 17
+    (demand (fits rule (x .a) (x .b) (x .c) (x .d)) 7
+    (full (layout (basic s k (x .a) (x .b) (x .c) (x .d)))))
 
 abbrev pub basicFrame : ℕ → ℕ → Arguments → Answer (List ℕ)
 basicFrame s k x = basicOf (shapeOf k) s k x
@@ -47,3 +51,9 @@ abbrev pub frameOf : Fields → Answer (List ℕ)
 frameOf (basic s k a b c d) = writerOf (basic s k a b c d)
 frameOf (unicast s port i j k l) = demand (ltb port 65536) 7 (writerOf (unicast s port i j k l))
 frameOf (colour s a l h) = demand (isType (typeOf h)) 4 (demand (isColour h) 7 (writerOf (colour s a l h)))
+
+-- the frame that a relay of requests is to write: what its reader refuses is refused, what is marked is written no more, and all else is
+-- written again byte for byte
+abbrev pub handedOn : Answer Heard → List ℕ → Answer (List ℕ)
+handedOn (refused k) d = refused k
+handedOn (full r) d = demand (not (markOf r)) 17 (full d)

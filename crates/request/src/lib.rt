@@ -1,11 +1,12 @@
 // Requests as single datagrams, read (crate writers writes them). Basic requests, the one dynamic request, 40, and colour requests. It
 // leans on crate command for shapes and lengths, on crate ranges for the ranges, on crate meaning for what arguments say, and on crate
-// colour for colours. Document 01, "Frames" and "Requests and their argument ranges"; document 02, W-202; source 002, "Basic Request
-// Frame", "TPI Dynamic Subframe" and "DALI Colour Request Frame".
+// colour for colours. Document 01, "Frames" and "Requests and their argument ranges"; document 02, W-202 and W-210; source 002, "Basic
+// Request Frame", "TPI Dynamic Subframe" and "DALI Colour Request Frame".
 ghost use mathlib.Core.Path.{_≡_};
 ghost use Prim.Native.Nat.{_≤_};
 ghost use lib.ListN.{length};
 ghost use Rattle.frame.specs.Frame.{byte};
+ghost use Rattle.command.specs.Command.{isRetired};
 ghost use Rattle.colour.specs.Colour.{saidColour, hueIn};
 ghost use Rattle.request.specs.Said.{said};
 ghost use Rattle.request.specs.Reading.{readRequest, readBasic, readUnicast, colourData, judged, readColoured};
@@ -38,9 +39,11 @@ pub enum Contents {
     },
 }
 
+// A request that was read. One whose command is retired is "marked as retired" and reads as before.
 pub struct Request {
     pub sequence: u8,
     pub command: u8,
+    pub retired: bool,
     pub contents: Contents,
 }
 
@@ -50,9 +53,9 @@ pub enum Reading {
     Refused(u8),
 }
 
-// A basic request whose command has this rule.
-fn read_basic(rule: Rule, s: &[u8]) -> Reading
-    requires { ⌜ 8 ≤ length (now s) ⌝ }
+// A basic request whose command has this rule and this mark.
+fn read_basic(rule: Rule, retired: bool, s: &[u8]) -> Reading
+    requires { ⌜ (8 ≤ length (now s)) × (retired ≡ isRetired (byte 2 (now s))) ⌝ }
     ensures { λ r. ⌜ said r ≡ readBasic rule (now (s .entry)) ⌝ }
 {
     if s.len() != command::BASIC_BYTES {
@@ -72,6 +75,7 @@ fn read_basic(rule: Rule, s: &[u8]) -> Reading
     Reading::Accepted(Request {
         sequence: s[1],
         command: s[2],
+        retired,
         contents: Contents::Basic {
             arguments: Arguments { a, b, c, d },
             meaning,
@@ -79,9 +83,9 @@ fn read_basic(rule: Rule, s: &[u8]) -> Reading
     })
 }
 
-// Request 40.
-fn read_unicast(s: &[u8]) -> Reading
-    requires { ⌜ 8 ≤ length (now s) ⌝ }
+// Request 40, with the mark of its command.
+fn read_unicast(retired: bool, s: &[u8]) -> Reading
+    requires { ⌜ (8 ≤ length (now s)) × (retired ≡ isRetired (byte 2 (now s))) ⌝ }
     ensures { λ r. ⌜ said r ≡ readUnicast (now (s .entry)) ⌝ }
 {
     if s[3] != command::UNICAST_LENGTH {
@@ -97,6 +101,7 @@ fn read_unicast(s: &[u8]) -> Reading
     Reading::Accepted(Request {
         sequence: s[1],
         command: s[2],
+        retired,
         contents: Contents::Unicast {
             port,
             address: Ipv4(s[6], s[7], s[8], s[9]),
@@ -105,8 +110,8 @@ fn read_unicast(s: &[u8]) -> Reading
 }
 
 // A colour request whose colour was read: its sum and its address.
-fn read_coloured(colour: Colour, s: &[u8]) -> Reading
-    requires { ⌜ (8 ≤ length (now s)) × (saidColour colour ≡ hueIn (byte 5 (now s)) (colourData (now s))) ⌝ }
+fn read_coloured(colour: Colour, retired: bool, s: &[u8]) -> Reading
+    requires { ⌜ (8 ≤ length (now s)) × (retired ≡ isRetired (byte 2 (now s))) × (saidColour colour ≡ hueIn (byte 5 (now s)) (colourData (now s))) ⌝ }
     ensures { λ r. ⌜ said r ≡ judged (now (s .entry)) ⌝ }
 {
     if sum::xor(s) != 0 {
@@ -120,6 +125,7 @@ fn read_coloured(colour: Colour, s: &[u8]) -> Reading
     Reading::Accepted(Request {
         sequence: s[1],
         command: s[2],
+        retired,
         contents: Contents::Colour {
             target,
             lights: target.lights(),
@@ -130,19 +136,19 @@ fn read_coloured(colour: Colour, s: &[u8]) -> Reading
 }
 
 // A colour request: its colour data stands between its type and its sum.
-fn read_colour(s: &[u8]) -> Reading
-    requires { ⌜ 8 ≤ length (now s) ⌝ }
+fn read_colour(retired: bool, s: &[u8]) -> Reading
+    requires { ⌜ (8 ≤ length (now s)) × (retired ≡ isRetired (byte 2 (now s))) ⌝ }
     ensures { λ r. ⌜ said r ≡ readColoured (now (s .entry)) ⌝ }
 {
     let end = s.len() - 1;
     let told = colour::read(s[5], &s[command::COLOUR_DATA_AT..end]);
     match told {
         colour::Reading::Refused(k) => Reading::Refused(k),
-        colour::Reading::Accepted(colour) => read_coloured(colour, s),
+        colour::Reading::Accepted(colour) => read_coloured(colour, retired, s),
     }
 }
 
-// What a datagram says as a request: the lowest refusal that applies, or a full reading.
+// What a datagram says as a request: the lowest refusal that applies, or a full reading, marked where its command is retired.
 pub fn read(s: &[u8]) -> Reading
     ensures { λ r. ⌜ said r ≡ readRequest (now (s .entry)) ⌝ }
 {
@@ -152,11 +158,13 @@ pub fn read(s: &[u8]) -> Reading
     if s[0] != lead::REQUEST {
         return Reading::Refused(2);
     }
-    let shape = command::shape_of(s[2]);
+    let c = command::decide(s[2]);
+    let retired = c.1;
+    let shape = c.0;
     match shape {
         Shape::Unknown => Reading::Refused(3),
-        Shape::Basic(rule) => read_basic(rule, s),
-        Shape::Unicast => read_unicast(s),
-        Shape::Colour => read_colour(s),
+        Shape::Basic(rule) => read_basic(rule, retired, s),
+        Shape::Unicast => read_unicast(retired, s),
+        Shape::Colour => read_colour(retired, s),
     }
 }

@@ -7,6 +7,7 @@ ghost use mathlib.Core.Path.{_≡_};
 ghost use mathlib.Core.Bool.{not};
 ghost use mathlib.Core.List.{[], _∷_};
 ghost use lib.Dec.{eqb};
+ghost use Rattle.refusal.specs.Test.{flag};
 ghost use Rattle.sum.specs.Sum.{sumOf};
 ghost use Rattle.frame.specs.Relay.{relayed};
 ghost use Rattle.target.specs.Target.{lightsOf, statusOf, lineOf, deviceOf, deviceNumber};
@@ -14,7 +15,7 @@ ghost use Rattle.command.specs.Command.{isKnown};
 ghost use Rattle.command.specs.Colours.{xyType, tcType, rgbwafType};
 ghost use Rattle.colour.specs.Colour.{hue};
 ghost use Rattle.request.specs.Reading.{readRequest};
-ghost use Rattle.request.specs.Writing.{basicFrame, unicastFrame, colourFrame};
+ghost use Rattle.request.specs.Writing.{basicFrame, unicastFrame, colourFrame, handedOn};
 ghost use Rattle.error.specs.Error.{nameOf};
 ghost use Rattle.reply.specs.Reading.{readReply, codeOf};
 ghost use Rattle.reply.specs.Writing.{replyFrame};
@@ -34,7 +35,7 @@ ghost use Rattle.c_datagrams.specs.Written.{WrittenOut};
 ghost use Rattle.c_datagrams.specs.Requests.{aimOut, requestOut, addressIn};
 ghost use Rattle.c_datagrams.specs.Replies.{replyOut, nameNo, codeOut};
 ghost use Rattle.c_datagrams.specs.Events.{eventOut, macIn};
-ghost use Rattle.c_values.specs.Numbers.{flag, numberOut, lineOut, deviceOut};
+ghost use Rattle.c_values.specs.Numbers.{numberOut, lineOut, deviceOut};
 ghost use Rattle.c_values.specs.Filters.{filtersOut, filterOut};
 ghost use Rattle.c_values.specs.Books.{bookIn, bookOut, askedOut, repliedOut};
 ghost use Rattle.c_values.specs.Lines.{lineBy, readerIn, readerOut, fedOut, closedOut, positionOut};
@@ -189,10 +190,10 @@ pub extern "C" fn wick_write_colour_rgbwaf(
     c_datagrams::wrote_out(writers::colour(sequence, LineTarget(target), level, colour, out))
 }
 
-// Reads a request and writes it again.
+// Reads a request and writes it again, unless its command is retired.
 #[no_mangle]
 pub extern "C" fn wick_relay_request(s: &[u8], out: &mut [u8]) -> WickWrote
-    ensures { λ w. ⌜ WrittenOut (relayed (readRequest (now (s .entry))) (now (s .entry))) (now (out .entry)) w (now (out .exit)) ⌝ }
+    ensures { λ w. ⌜ WrittenOut (handedOn (readRequest (now (s .entry))) (now (s .entry))) (now (out .entry)) w (now (out .exit)) ⌝ }
 {
     c_datagrams::wrote_out(relay::request(s, out))
 }

@@ -1,7 +1,7 @@
 // Datagrams written into a lent buffer: basic requests, request 40, colour requests, replies and events, each by the layout of its family
 // (crates request, reply and event have the definitions). It leans on lead for the leads and the most data, on command and ranges for what a
 // basic request may say, on target and colour for a colour request, and on frame for the last step of writing.
-// Document 01, "Frames" and "Requests and their argument ranges"; document 02, W-202.
+// Document 01, "Frames" and "Requests and their argument ranges"; document 02, W-202 and W-210.
 ghost use Prim.Native.Nat.{suc, _+_, _^_};
 ghost use mathlib.Core.Path.{_≡_};
 ghost use mathlib.Core.List.{[], _∷_, _++_};
@@ -22,14 +22,18 @@ use meaning::Arguments;
 use request::Ipv4;
 use target::LineTarget;
 
-// Writes a basic request: 3 where the command is unknown, 40 or 0E, 7 where an argument is outside the table, 8 where the
-// buffer is too short.
+// Writes a basic request: 3 where the command is unknown, 40 or 0E, 17 where it is retired, 7 where an argument is outside the table, 8
+// where the buffer is too short.
 pub fn basic(sequence: u8, command: u8, arguments: Arguments, out: &mut [u8]) -> Wrote
     ensures { λ r. ⌜ Written (basicFrame sequence command arguments) (now (out .entry)) r (now (out .exit)) ⌝ }
 {
-    let shape = command::shape_of(command);
+    let decided = command::decide(command);
+    let shape = decided.0;
     match shape {
         Shape::Basic(rule) => {
+            if decided.1 {
+                return Wrote::Refused(17);
+            }
             let a = arguments.a;
             let b = arguments.b;
             let c = arguments.c;

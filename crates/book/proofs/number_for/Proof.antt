@@ -4,21 +4,37 @@ use Rattle.book.specs.Book.{numberFor}
 use Rattle.book.proofs.number_for.Statement.{statement}
 use Rattle.book.proofs.number_for.Tie as tie
 
-may-ask-requires : tie.Need-may-ask-requires
-may-ask-requires c κs = search needs
+known-requires : tie.Need-known-requires
+known-requires c κs = search needs
 
 returns : tie.Need-returns
 unfolding numberFor
-returns c = rw (← c .before .may-ask .ensures, not-true (c .before .may-ask .result) (c .if1 .taken))
+returns c = rw (← c .before .known .ensures, not-true (c .before .known .result) (c .if1 .taken))
 
-first-free-requires : tie.Need-first-free-requires
-first-free-requires c κs = search needs
+retired-requires : tie.Need-retired-requires
+retired-requires c κs = search needs
 
 returns-2 : tie.Need-returns-2
 unfolding numberFor
 returns-2 c =
-    let at = c .before .before .before in
-    rw (← at .before .may-ask .ensures, not-false (at .before .may-ask .result) (at .if1 .left)) (search needs)
+    let at = c .before .before in
+    rw (← at .before .known .ensures, not-false (at .before .known .result) (at .if1 .left), ← c .before .retired .ensures, c .if2 .taken)
+
+first-free-requires : tie.Need-first-free-requires
+first-free-requires c κs = search needs
+
+returns-3 : tie.Need-returns-3
+unfolding numberFor
+returns-3 c =
+    let here = c .before .before .before in
+    let at = here .before .before in
+    rw (
+      ← at .before .known .ensures,
+      not-false (at .before .known .result) (at .if1 .left),
+      ← here .before .retired .ensures,
+      here .if2 .left,
+    )
+    (search needs)
 
 pub number-for-spec : {M : Type 1} → statement M
-number-for-spec = tie.close (tie.spec may-ask-requires returns first-free-requires returns-2)
+number-for-spec = tie.close (tie.spec known-requires returns retired-requires returns-2 first-free-requires returns-3)

@@ -16,11 +16,11 @@ returns-2 : tie.Need-returns-2
 unfolding readRequest
 returns-2 c = search (tests, needs)
 
-shared-slice-read-shape-of : tie.Need-shared-slice-read-shape-of
-shared-slice-read-shape-of c = search needs
+shared-slice-read-decide : tie.Need-shared-slice-read-decide
+shared-slice-read-decide c = search needs
 
-shape-of-requires : tie.Need-shape-of-requires
-shape-of-requires c κs = search needs
+decide-requires : tie.Need-decide-requires
+decide-requires c κs = search needs
 
 enum-told : tie.Need-enum-told
 enum-told c = search needs
@@ -29,36 +29,36 @@ enum-known-shape : tie.Need-enum-known-shape
 enum-known-shape c = search needs
 
 read-basic-requires : tie.Need-read-basic-requires
-read-basic-requires c κs = search needs
+read-basic-requires c κs = (search needs, c .before .before .before .decide .ensures .mark)
 
 enum-told-2 : tie.Need-enum-told-2
 enum-told-2 c = search needs
 
 read-unicast-requires : tie.Need-read-unicast-requires
-read-unicast-requires c κs = search needs
+read-unicast-requires c κs = (search needs, c .before .before .decide .ensures .mark)
 
 enum-told-3 : tie.Need-enum-told-3
 enum-told-3 c = search needs
 
 read-colour-requires : tie.Need-read-colour-requires
-read-colour-requires c κs = search needs
+read-colour-requires c κs = (search needs, c .before .before .decide .ensures .mark)
 
 returns-3 : tie.Need-returns-3
-returns-3 c = numbers-read (c .before .before .before .before .before .before .before .before .args .s .now) (c .before .before .shape-of .result) _ (search needs) (c .before .before .before .before .if2 .left) (c .before .before .shape-of .ensures) (rw (c .enum-told .given .1))
+returns-3 c = numbers-read (c .before .before .before .before .before .before .before .before .args .s .now) (c .before .before .decide .result .0) _ (search needs) (c .before .before .before .before .if2 .left) (c .before .before .decide .ensures .numbers) (rw (c .enum-told .given .1))
 
 returns-4 : tie.Need-returns-4
 returns-4 c =
-    numbers-read (c .before .before .before .before .before .before .before .before .before .before .args .s .now) (c .before .before .before .before .shape-of .result) _ (search needs) (c .before .before .before .before .before .before .if2 .left) (c .before .before .before .before .shape-of .ensures)
+    numbers-read (c .before .before .before .before .before .before .before .before .before .before .args .s .now) (c .before .before .before .before .decide .result .0) _ (search needs) (c .before .before .before .before .before .before .if2 .left) (c .before .before .before .before .decide .ensures .numbers)
     (rw (c .before .before .shape .given .1) (c .read-basic .ensures))
 
 returns-5 : tie.Need-returns-5
 returns-5 c =
-    numbers-read (c .before .before .before .before .before .before .before .before .before .args .s .now) (c .before .before .before .shape-of .result) _ (search needs) (c .before .before .before .before .before .if2 .left) (c .before .before .before .shape-of .ensures)
+    numbers-read (c .before .before .before .before .before .before .before .before .before .args .s .now) (c .before .before .before .decide .result .0) _ (search needs) (c .before .before .before .before .before .if2 .left) (c .before .before .before .decide .ensures .numbers)
     (rw (c .before .enum-told2 .given .1) (c .read-unicast .ensures))
 
 returns-6 : tie.Need-returns-6
 returns-6 c =
-    numbers-read (c .before .before .before .before .before .before .before .before .before .args .s .now) (c .before .before .before .shape-of .result) _ (search needs) (c .before .before .before .before .before .if2 .left) (c .before .before .before .shape-of .ensures)
+    numbers-read (c .before .before .before .before .before .before .before .before .before .args .s .now) (c .before .before .before .decide .result .0) _ (search needs) (c .before .before .before .before .before .if2 .left) (c .before .before .before .decide .ensures .numbers)
     (rw (c .before .enum-told3 .given .1) (c .read-colour .ensures))
 
 pub read-spec : {M : Type 1} → statement M
@@ -68,8 +68,8 @@ read-spec =
     returns
     shared-slice-read-if2
     returns-2
-    shared-slice-read-shape-of
-    shape-of-requires
+    shared-slice-read-decide
+    decide-requires
     enum-told
     enum-known-shape
     read-basic-requires

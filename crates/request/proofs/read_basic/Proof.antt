@@ -42,15 +42,16 @@ returns-3 c =
 meaning-of-requires : tie.Need-meaning-of-requires
 meaning-of-requires c κs = search needs
 
-shared-slice-read-t10 : tie.Need-shared-slice-read-t10
-shared-slice-read-t10 c = search needs
+shared-slice-read-t11 : tie.Need-shared-slice-read-t11
+shared-slice-read-t11 c = search needs
 
-shared-slice-read-t18 : tie.Need-shared-slice-read-t18
-shared-slice-read-t18 c = search needs
+shared-slice-read-t19 : tie.Need-shared-slice-read-t19
+shared-slice-read-t19 c = search needs
 
 returns-4 : tie.Need-returns-4
 returns-4 c =
-    basic-accepts (c .before .before .before .before .before .before .before .before .before .before .before .before .before .args .rule) (c .before .before .before .before .before .before .before .before .before .before .before .before .before .args .s .now) (saidMeaning (c .before .before .meaning-of .result)) (search needs) (sym (c .before .before .before .before .before .before .before .before .before .before .xor .ensures) ∙ search needs)
+    let at = c .before .before .before .before .before .before .before .before .before .before .before .before .before in
+    basic-accepts (at .args .rule) (at .args .s .now) (at .args .retired) (saidMeaning (c .before .before .meaning-of .result)) (at .pre .1) (search needs) (sym (c .before .before .before .before .before .before .before .before .before .before .xor .ensures) ∙ search needs)
     (sym (c .before .before .before .before .fits2 .ensures) ∙ not-false (c .before .before .before .before .fits2 .result) (c .before .before .before .if3 .left))
     (c .before .before .meaning-of .ensures)
 
@@ -68,6 +69,6 @@ read-basic-spec =
     fits-requires
     returns-3
     meaning-of-requires
-    shared-slice-read-t10
-    shared-slice-read-t18
+    shared-slice-read-t11
+    shared-slice-read-t19
     returns-4)

@@ -35,15 +35,15 @@ enum-known-told-2 c = search needs
 
 read-coloured-requires : tie.Need-read-coloured-requires
 read-coloured-requires c κs =
-    (search needs, colour-same (byte 5 (c .before .before .before .before .before .before .before .args .s .now)) (colourData (c .before .before .before .before .before .before .before .args .s .now)) _ (sym (told said (c .before .before .before .read .result) (c .before .before .before .read .ensures) (c .before .told2 .given .1))))
+    (search needs, search needs, colour-same (byte 5 (c .before .before .before .before .before .before .before .args .s .now)) (colourData (c .before .before .before .before .before .before .before .args .s .now)) _ (sym (told said (c .before .before .before .read .result) (c .before .before .before .read .ensures) (c .before .told2 .given .1))))
 
 returns : tie.Need-returns
-returns c = colour-refused (c .before .before .before .before .before .before .before .args .s .now) _ (omega (arith, c .before .before .before .before .before .before .before .pre)) (sym (told said (c .before .before .before .read .result) (c .before .before .before .read .ensures) (c .before .told .given .1)))
+returns c = colour-refused (c .before .before .before .before .before .before .before .args .s .now) _ (omega (arith, c .before .before .before .before .before .before .before .pre .0)) (sym (told said (c .before .before .before .read .result) (c .before .before .before .read .ensures) (c .before .told .given .1)))
 
 returns-2 : tie.Need-returns-2
 returns-2 c =
     c .read-coloured .ensures
-    ∙ colour-judged (c .before .before .before .before .before .before .before .before .args .s .now) _ (omega (arith, c .before .before .before .before .before .before .before .before .pre)) (sym (told said (c .before .before .before .before .read .result) (c .before .before .before .before .read .ensures) (c .before .before .told2 .given .1)))
+    ∙ colour-judged (c .before .before .before .before .before .before .before .before .args .s .now) _ (omega (arith, c .before .before .before .before .before .before .before .before .pre .0)) (sym (told said (c .before .before .before .before .read .result) (c .before .before .before .before .read .ensures) (c .before .before .told2 .given .1)))
 
 pub read-colour-spec : {M : Type 1} → statement M
 read-colour-spec =

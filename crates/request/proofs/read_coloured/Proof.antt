@@ -23,23 +23,24 @@ is-lighting-requires c κs = search needs
 returns-2 : tie.Need-returns-2
 returns-2 c = judged-outside (c .before .before .before .before .before .before .args .s .now) (sym (c .before .before .before .before .xor .ensures) ∙ search needs) (sym (c .before .is-lighting .ensures) ∙ not-true (c .before .is-lighting .result) (c .if2 .taken))
 
-shared-slice-read-t5 : tie.Need-shared-slice-read-t5
-shared-slice-read-t5 c = search needs
+shared-slice-read-t6 : tie.Need-shared-slice-read-t6
+shared-slice-read-t6 c = search needs
 
-shared-slice-read-t11 : tie.Need-shared-slice-read-t11
-shared-slice-read-t11 c = search needs
+shared-slice-read-t12 : tie.Need-shared-slice-read-t12
+shared-slice-read-t12 c = search needs
 
 lights-requires : tie.Need-lights-requires
 lights-requires c κs = search needs
 
-shared-slice-read-t14 : tie.Need-shared-slice-read-t14
-shared-slice-read-t14 c = search needs
+shared-slice-read-t15 : tie.Need-shared-slice-read-t15
+shared-slice-read-t15 c = search needs
 
 returns-3 : tie.Need-returns-3
 returns-3 c =
-    judged-accepts (c .before .before .before .before .before .before .before .before .before .before .args .s .now) (saidTarget (c .before .lights .result)) (saidColour (c .before .before .before .before .before .before .before .before .before .before .args .colour)) (sym (c .before .before .before .before .before .before .before .before .xor .ensures) ∙ search needs)
+    let at = c .before .before .before .before .before .before .before .before .before .before in
+    judged-accepts (at .args .s .now) (at .args .retired) (saidTarget (c .before .lights .result)) (saidColour (at .args .colour)) (at .pre .1) (sym (c .before .before .before .before .before .before .before .before .xor .ensures) ∙ search needs)
     (sym (c .before .before .before .before .before .is-lighting .ensures) ∙ not-false (c .before .before .before .before .before .is-lighting .result) (c .before .before .before .before .if2 .left))
-    (c .before .lights .ensures) (c .before .before .before .before .before .before .before .before .before .before .pre .1)
+    (c .before .lights .ensures) (at .pre .2)
 
 pub read-coloured-spec : {M : Type 1} → statement M
 read-coloured-spec =
@@ -50,8 +51,8 @@ read-coloured-spec =
     shared-slice-read-address
     is-lighting-requires
     returns-2
-    shared-slice-read-t5
-    shared-slice-read-t11
+    shared-slice-read-t6
+    shared-slice-read-t12
     lights-requires
-    shared-slice-read-t14
+    shared-slice-read-t15
     returns-3)

@@ -1,4 +1,6 @@
+use mathlib.Core.Path.{sym, _∙_}
 use Rattle.request.specs.Reading.{readUnicast}
+use Rattle.request.specs.Reads.{unicast-accepts}
 use Rattle.refusal.specs.Test.{tests}
 use borrow.Author.Needs.{needs}
 use Rattle.request.proofs.read_unicast.Statement.{statement}
@@ -31,27 +33,30 @@ shared-slice-read-high-first-2 c = search needs
 high-first-requires : tie.Need-high-first-requires
 high-first-requires c κs = search needs
 
-shared-slice-read-t4 : tie.Need-shared-slice-read-t4
-shared-slice-read-t4 c = search needs
+shared-slice-read-t5 : tie.Need-shared-slice-read-t5
+shared-slice-read-t5 c = search needs
 
-shared-slice-read-t9 : tie.Need-shared-slice-read-t9
-shared-slice-read-t9 c = search needs
+shared-slice-read-t10 : tie.Need-shared-slice-read-t10
+shared-slice-read-t10 c = search needs
 
-shared-slice-read-t13 : tie.Need-shared-slice-read-t13
-shared-slice-read-t13 c = search needs
+shared-slice-read-t14 : tie.Need-shared-slice-read-t14
+shared-slice-read-t14 c = search needs
 
-shared-slice-read-t15 : tie.Need-shared-slice-read-t15
-shared-slice-read-t15 c = search needs
+shared-slice-read-t16 : tie.Need-shared-slice-read-t16
+shared-slice-read-t16 c = search needs
 
-shared-slice-read-t17 : tie.Need-shared-slice-read-t17
-shared-slice-read-t17 c = search needs
+shared-slice-read-t18 : tie.Need-shared-slice-read-t18
+shared-slice-read-t18 c = search needs
 
-shared-slice-read-t19 : tie.Need-shared-slice-read-t19
-shared-slice-read-t19 c = search needs
+shared-slice-read-t20 : tie.Need-shared-slice-read-t20
+shared-slice-read-t20 c = search needs
 
 returns-4 : tie.Need-returns-4
-unfolding readUnicast
-returns-4 c = search (← c .before .before .before .before .before .before .before .before .before .before .xor .ensures, ← c .before .before .before .before .before .before .high-first .ensures, tests, needs)
+returns-4 c =
+    let at = c .before .before .before .before .before .before .before .before .before .before .before .before .before .before .before in
+    unicast-accepts (at .args .s .now) (at .args .retired) (c .before .before .before .before .before .before .high-first .result) (at .pre .1) (search needs) (search needs)
+    (sym (c .before .before .before .before .before .before .before .before .before .before .xor .ensures) ∙ search needs)
+    (c .before .before .before .before .before .before .high-first .ensures)
 
 pub read-unicast-spec : {M : Type 1} → statement M
 read-unicast-spec =
@@ -65,10 +70,10 @@ read-unicast-spec =
     shared-slice-read-high-first
     shared-slice-read-high-first-2
     high-first-requires
-    shared-slice-read-t4
-    shared-slice-read-t9
-    shared-slice-read-t13
-    shared-slice-read-t15
-    shared-slice-read-t17
-    shared-slice-read-t19
+    shared-slice-read-t5
+    shared-slice-read-t10
+    shared-slice-read-t14
+    shared-slice-read-t16
+    shared-slice-read-t18
+    shared-slice-read-t20
     returns-4)

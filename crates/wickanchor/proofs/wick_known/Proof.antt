@@ -1,7 +1,7 @@
 use mathlib.Core.Path.{_≡_, refl}
 use mathlib.Core.Bool.{Bool, true, false}
 use mir.Val.{boolByte}
-use Rattle.c_values.specs.Numbers.{flag}
+use Rattle.refusal.specs.Test.{flag}
 use borrow.Author.Needs.{needs}
 use Rattle.wickanchor.proofs.wick_known.Statement.{statement}
 use Rattle.wickanchor.proofs.wick_known.Tie as tie

@@ -5,19 +5,24 @@ use Rattle.frame.specs.Written.{refuses, passes}
 use Rattle.writers.proofs.basic.Statement.{statement}
 use Rattle.writers.proofs.basic.Tie as tie
 
-shape-of-requires : tie.Need-shape-of-requires
-shape-of-requires c κs = search needs
+decide-requires : tie.Need-decide-requires
+decide-requires c κs = search needs
 
 enum-known-shape : tie.Need-enum-known-shape
 enum-known-shape c = search needs
 
+returns : tie.Need-returns
+returns c =
+    refuses (c .before .before .before .before .before .before .args .out .now)
+    (rw (← shape-told (c .before .before .before .before .decide .result .0) _ (c .before .before .before .before .decide .ensures .numbers), c .before .before .shape .given .1, ← c .before .before .before .before .decide .ensures .mark, c .if1 .taken))
+
 fits-requires : tie.Need-fits-requires
 fits-requires c κs = search needs
 
-returns : tie.Need-returns
-returns c =
-    refuses (c .before .before .before .before .before .before .before .args .out .now)
-    (rw (← shape-told (c .before .before .before .before .before .shape-of .result) _ (c .before .before .before .before .before .shape-of .ensures), c .before .before .before .shape .given .1, ← c .before .fits2 .ensures, not-true (c .before .fits2 .result) (c .if1 .taken)))
+returns-2 : tie.Need-returns-2
+returns-2 c =
+    refuses (c .before .before .before .before .before .before .before .before .args .out .now)
+    (rw (← shape-told (c .before .before .before .before .before .before .decide .result .0) _ (c .before .before .before .before .before .before .decide .ensures .numbers), c .before .before .before .before .shape .given .1, ← c .before .before .before .before .before .before .decide .ensures .mark, c .before .before .if1 .left, ← c .before .fits2 .ensures, not-true (c .before .fits2 .result) (c .if2 .taken)))
 
 slice-aggregate-write : tie.Need-slice-aggregate-write
 slice-aggregate-write c = search needs
@@ -40,29 +45,30 @@ enum-told-3 c = search needs
 same-length : tie.Need-same-length
 same-length c = search needs
 
-returns-2 : tie.Need-returns-2
-returns-2 c =
+returns-3 : tie.Need-returns-3
+returns-3 c =
     passes
-    (rw (← shape-told (c .before .before .before .before .before .before .before .before .before .before .before .shape-of .result) _ (c .before .before .before .before .before .before .before .before .before .before .before .shape-of .ensures), c .before .before .before .before .before .before .before .before .before .shape .given .1, ← c .before .before .before .before .before .before .before .fits2 .ensures, not-false (c .before .before .before .before .before .before .before .fits2 .result) (c .before .before .before .before .before .before .if1 .left)))
+    (rw (← shape-told (c .before .before .before .before .before .before .before .before .before .before .before .before .decide .result .0) _ (c .before .before .before .before .before .before .before .before .before .before .before .before .decide .ensures .numbers), c .before .before .before .before .before .before .before .before .before .before .shape .given .1, ← c .before .before .before .before .before .before .before .before .before .before .before .before .decide .ensures .mark, c .before .before .before .before .before .before .before .before .if1 .left, ← c .before .before .before .before .before .before .before .fits2 .ensures, not-false (c .before .before .before .before .before .before .before .fits2 .result) (c .before .before .before .before .before .before .if2 .left)))
     (c .before .before .write .ensures)
 
-returns-3 : tie.Need-returns-3
-returns-3 c = refuses (c .before .before .before .before .args .out .now) (rw (← shape-told (c .before .before .shape-of .result) _ (c .before .before .shape-of .ensures), c .enum-told .given .1))
-
 returns-4 : tie.Need-returns-4
-returns-4 c = refuses (c .before .before .before .before .args .out .now) (rw (← shape-told (c .before .before .shape-of .result) _ (c .before .before .shape-of .ensures), c .enum-told2 .given .1))
+returns-4 c = refuses (c .before .before .before .before .args .out .now) (rw (← shape-told (c .before .before .decide .result .0) _ (c .before .before .decide .ensures .numbers), c .enum-told .given .1))
 
 returns-5 : tie.Need-returns-5
-returns-5 c = refuses (c .before .before .before .before .args .out .now) (rw (← shape-told (c .before .before .shape-of .result) _ (c .before .before .shape-of .ensures), c .enum-told3 .given .1))
+returns-5 c = refuses (c .before .before .before .before .args .out .now) (rw (← shape-told (c .before .before .decide .result .0) _ (c .before .before .decide .ensures .numbers), c .enum-told2 .given .1))
+
+returns-6 : tie.Need-returns-6
+returns-6 c = refuses (c .before .before .before .before .args .out .now) (rw (← shape-told (c .before .before .decide .result .0) _ (c .before .before .decide .ensures .numbers), c .enum-told3 .given .1))
 
 pub basic-spec : {M : Type 1} → statement M
 basic-spec =
     tie.close
     (tie.spec
-    shape-of-requires
+    decide-requires
     enum-known-shape
-    fits-requires
     returns
+    fits-requires
+    returns-2
     slice-aggregate-write
     slice-aggregate-write-2
     write-requires
@@ -70,7 +76,7 @@ basic-spec =
     enum-told-2
     enum-told-3
     same-length
-    returns-2
     returns-3
     returns-4
-    returns-5)
+    returns-5
+    returns-6)
