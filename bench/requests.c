@@ -1,6 +1,6 @@
 /* Requests read and written as a program in C does (include/wickanchor.h): bench/speed counts what a call takes. Of standard input the first
- * byte says which request: 0 a scene call (A1), 1 request 40, 2, 3 and 4 a colour request of type XY, TC and RGBWAF. The second says what is done
- * with it: 0 read, 1 written, 2 read with a wrong sum. Each byte behind them is a sequence number, and makes one call. It prints how many calls
+ * byte says which request: 0 a scene call (A1), 1 request 40, 2, 3 and 4 a colour request of type XY, TC and RGBWAF, 5 a query of a level (AA), 6 the
+ * same written under the quiet profile. The second says what is done with it: 0 read, 1 written, 2 read with a wrong sum. Each byte behind them is a sequence number, and makes one call. It prints how many calls
  * were refused. */
 #include "wickanchor.h"
 
@@ -21,6 +21,10 @@ static struct wick_wrote written(uint8_t which, uint8_t sequence)
         return wick_write_colour_xy(sequence, 127, 254, 4660, 22136, frame, sizeof frame);
     case 3:
         return wick_write_colour_tc(sequence, 127, 254, 370, frame, sizeof frame);
+    case 5:
+        return wick_write_basic(sequence, WICK_DALI_QUERY_LEVEL, 3, 0, 0, 0, frame, sizeof frame);
+    case 6:
+        return wick_write_basic_quiet(sequence, WICK_DALI_QUERY_LEVEL, 3, 0, 0, 0, frame, sizeof frame);
     default:
         return wick_write_colour_rgbwaf(sequence, 127, 254, 255, 129, 66, 35, 20, 5, frame, sizeof frame);
     }

@@ -1,8 +1,9 @@
-"""Makes the three streams of the benchmark in a folder, the same bytes on every run: python3 bench/streams.py FOLDER
+"""Makes the streams of the benchmark in a folder, the same bytes on every run: python3 bench/streams.py FOLDER
 
 clean   replies of 0 to 64 data bytes, each with its sum
 noise   bytes without a rule
 worst   a lead at every other place, each with a length of 64 and a sum that fails, so that the reader sums 68 bytes again and again
+queries requests for the levels of gear, a run that passes the quiet profile
 """
 import pathlib
 import sys
@@ -42,6 +43,13 @@ def worst():
     return bytes([0xA0, 0xA1, 0x40, 0x40]) * (SIZE // 4)
 
 
+def queries():
+    stream = bytearray()
+    for i in range(SIZE // 8):
+        stream += bytes([0x04, i % 256, 0xAA, i % 64, 0, 0, 0, 0x04 ^ (i % 256) ^ 0xAA ^ (i % 64)])
+    return bytes(stream)
+
+
 folder = pathlib.Path(sys.argv[1])
-for make in (clean, noise, worst):
+for make in (clean, noise, worst, queries):
     (folder / make.__name__).write_bytes(make())

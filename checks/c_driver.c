@@ -191,6 +191,37 @@ static void write_colour_rgbwaf(void) {
     wrote(wick_write_colour_rgbwaf(b[0], b[1], b[2], b[3], b[4], b[5], b[6], b[7], b[8], out, g[1].n), g[1], out);
 }
 
+static void write_basic_quiet(void) {
+    const uint8_t *b = g[0].bytes;
+    uint8_t *out = lent(g[1]);
+    wrote(wick_write_basic_quiet(b[0], b[1], b[2], b[3], b[4], b[5], out, g[1].n), g[1], out);
+}
+
+static void write_unicast_quiet(void) {
+    const uint8_t *b = g[0].bytes;
+    struct wick_address a = {{b[3], b[4], b[5], b[6]}};
+    uint8_t *out = lent(g[1]);
+    wrote(wick_write_unicast_quiet(b[0], (uint16_t)high_first(b + 1, 2), a, out, g[1].n), g[1], out);
+}
+
+static void write_colour_xy_quiet(void) {
+    const uint8_t *b = g[0].bytes;
+    uint8_t *out = lent(g[1]);
+    wrote(wick_write_colour_xy_quiet(b[0], b[1], b[2], (uint16_t)high_first(b + 3, 2), (uint16_t)high_first(b + 5, 2), out, g[1].n), g[1], out);
+}
+
+static void write_colour_tc_quiet(void) {
+    const uint8_t *b = g[0].bytes;
+    uint8_t *out = lent(g[1]);
+    wrote(wick_write_colour_tc_quiet(b[0], b[1], b[2], (uint16_t)high_first(b + 3, 2), out, g[1].n), g[1], out);
+}
+
+static void write_colour_rgbwaf_quiet(void) {
+    const uint8_t *b = g[0].bytes;
+    uint8_t *out = lent(g[1]);
+    wrote(wick_write_colour_rgbwaf_quiet(b[0], b[1], b[2], b[3], b[4], b[5], b[6], b[7], b[8], out, g[1].n), g[1], out);
+}
+
 static void relay(struct wick_wrote (*f)(const uint8_t *, uint64_t, uint8_t *, uint64_t)) {
     uint8_t *out = lent(g[1]);
     wrote(f(g[0].bytes, g[0].n, out, g[1].n), g[1], out);
@@ -275,6 +306,7 @@ static void write_event_two(void) { event_by(wick_write_event_two); }
 
 static void sum(void) { printf("0 sum %02X", wick_sum(g[0].bytes, g[0].n)); }
 static void known(void) { printf(wick_known(g[0].bytes[0]) ? "0 known" : "0 unknown"); }
+static void inside(void) { printf(wick_inside(g[0].bytes[0]) ? "0 inside" : "0 outside"); }
 
 static void event_type(void) {
     printf("0 type %u ", g[0].bytes[0]);
@@ -433,6 +465,17 @@ static void item_at(int line) {
         number("item", r.item);
         number("count", r.count);
     } else printf(" nothing");
+}
+
+/* Where a run does not pass, what is before the item that is named passes, and that item stands there. */
+static void quiet(void) {
+    struct wick_quiet r = wick_quiet(g[0].bytes, g[0].n);
+    struct wick_item at = {0, 0, 0};
+    if (!r.passes && r.place < g[0].n) at = wick_item_at(WICK_REQUEST_LINE, 1, g[0].bytes + r.place, g[0].n - r.place);
+    printf(r.passes ? "0 yes" : "0 no");
+    if (r.passes ? r.passes != 1 || r.item || r.place || r.count
+                 : !wick_quiet(g[0].bytes, r.place).passes || !at.has_item || at.item != r.item || at.count != r.count)
+        printf(" NO SUCH ITEM");
 }
 
 static void fresh_request(void) { fresh(WICK_REQUEST_LINE); }
@@ -778,14 +821,15 @@ static const struct {
     void (*call)(void);
 } calls[] = {
     CALL(request), CALL(write_basic), CALL(write_unicast), CALL(write_colour_xy), CALL(write_colour_tc), CALL(write_colour_rgbwaf),
+    CALL(write_basic_quiet), CALL(write_unicast_quiet), CALL(write_colour_xy_quiet), CALL(write_colour_tc_quiet), CALL(write_colour_rgbwaf_quiet),
     CALL(relay_request), CALL(relay_reply), CALL(relay_event), CALL(relay_event_two),
     CALL(reply), CALL(reply_data), CALL(error_code), CALL(write_reply), CALL(event), CALL(event_data), CALL(write_event),
     CALL(event_two), CALL(event_two_data), CALL(write_event_two),
-    CALL(sum), CALL(known), CALL(error_name), CALL(event_type), CALL(group_target), CALL(device), CALL(device_number), CALL(name),
+    CALL(sum), CALL(known), CALL(inside), CALL(error_name), CALL(event_type), CALL(group_target), CALL(device), CALL(device_number), CALL(name),
     CALL(lights), CALL(status), CALL(mask), CALL(scenes), CALL(gear), CALL(types), CALL(count_types), CALL(count_gear),
     CALL(lowest_type), CALL(lowest_gear), CALL(filters), CALL(filter), CALL(book_fresh), CALL(book_set), CALL(book_show), CALL(ask), CALL(answer),
     CALL(fresh_request), CALL(fresh_reply), CALL(hold_request), CALL(hold_reply), CALL(feed_request), CALL(feed_reply),
-    CALL(close_request), CALL(close_reply), CALL(show_request), CALL(show_reply), CALL(item_request), CALL(item_reply),
+    CALL(close_request), CALL(close_reply), CALL(show_request), CALL(show_reply), CALL(item_request), CALL(item_reply), CALL(quiet),
     CALL(capture_set), CALL(summary_set), CALL(mark_set), CALL(capture_empty), CALL(capture_append), CALL(capture_append_at),
     CALL(capture_run), CALL(capture_run_at), CALL(capture_open), CALL(capture_count), CALL(capture_prefix), CALL(capture_record), CALL(capture_show),
     CALL(seasons), CALL(seasons_begin), CALL(seasons_part), CALL(seasons_end),

@@ -1,5 +1,6 @@
 // The header in C++: it compiles, its functions link, the scenes that it names are the last that requests take, colour requests have the
-// sizes and fields that it names and none is longer, what it calls retired is read, marked and not written, the sizes and targets that it names for
+// sizes and fields that it names and none is longer, what it calls retired is read, marked and not written, 18 commands are
+// inside the quiet profile and a run of them passes, the sizes and targets that it names for
 // each layout of events are the ends of theirs, and captures, runs of datagrams and seasons, whole and part by part, are as it says.
 #include "wickanchor.h"
 
@@ -70,6 +71,32 @@ static bool retired() {
         && fresh.refusal == WICK_RETIRED && fresh.book.last == 255 && none.refusal == WICK_RETIRED
         && wick_ask(book, WICK_QUERY_GROUP_NUMBERS).refusal == WICK_NO_NUMBER_FREE
         && freed.refusal == WICK_OK && freed.answer == WICK_QUERY_SCENE_NUMBERS && wick_answer(freed.book, 7).refusal == WICK_NOT_AWAITED;
+}
+
+// Under the quiet profile a query is written as without it, and a command that switches is refused behind a bad argument and before no room; a run
+// of two queries passes, and the second, where it switches, is named with its place. 18 commands are inside.
+static bool quiet() {
+    uint8_t run[2 * WICK_BASIC_BYTES], out[WICK_REQUEST_MOST] = {};
+    uint8_t *second = run + WICK_BASIC_BYTES;
+    const struct wick_address address = {{10, 0, 0, 1}};
+    const bool written = wick_write_basic_quiet(7, WICK_QUERY_GROUP_NUMBERS, 0, 0, 0, 0, run, WICK_BASIC_BYTES).count == WICK_BASIC_BYTES
+        && wick_write_basic_quiet(8, WICK_QUERY_SCENE_LABEL_FOR_GROUP, 1, 2, 0, 0, second, WICK_BASIC_BYTES).count == WICK_BASIC_BYTES;
+    const struct wick_quiet yes = wick_quiet(run, sizeof run), cut = wick_quiet(run, sizeof run - 1), none = wick_quiet(nullptr, 0);
+    const bool refuses = wick_write_basic_quiet(7, WICK_DALI_SCENE, 0, 0, 0, WICK_DALI_SCENE_MOST, out, 0).refusal == WICK_OUTSIDE_PROFILE
+        && wick_write_basic_quiet(7, WICK_DALI_SCENE, 0, 0, 0, WICK_DALI_SCENE_MOST + 1, out, 0).refusal == WICK_BAD_ARGUMENT
+        && wick_write_basic_quiet(7, WICK_QUERY_SCENE_NUMBERS, 0, 0, 0, 0, out, 0).refusal == WICK_RETIRED
+        && wick_write_basic_quiet(7, WICK_DALI_COLOUR, 0, 0, 0, 0, out, 0).refusal == WICK_UNKNOWN_COMMAND
+        && wick_write_unicast_quiet(7, 5110, address, out, 0).refusal == WICK_OUTSIDE_PROFILE
+        && wick_write_colour_xy_quiet(7, 65, 254, 0, 0, out, 0).refusal == WICK_OUTSIDE_PROFILE
+        && wick_write_colour_tc_quiet(7, 80, 254, 0, out, 0).refusal == WICK_BAD_ARGUMENT
+        && wick_write_colour_rgbwaf_quiet(7, 255, 254, 0, 0, 0, 0, 0, 0, out, sizeof out).refusal == WICK_OUTSIDE_PROFILE && !out[0];
+    const bool switches = wick_write_basic(8, WICK_DALI_SCENE, 0, 0, 0, WICK_DALI_SCENE_MOST, second, WICK_BASIC_BYTES).count == WICK_BASIC_BYTES;
+    const struct wick_quiet no = wick_quiet(run, sizeof run);
+    int inside = 0;
+    for (int command = 0; command < 256; command++) inside += wick_inside((uint8_t)command);
+    return written && refuses && switches && inside == 18 && wick_inside(WICK_QUERY_SCENE_NUMBERS) && !wick_inside(WICK_DALI_OFF)
+        && yes.passes && none.passes && !no.passes && no.item == 0 && no.place == WICK_BASIC_BYTES && no.count == WICK_BASIC_BYTES
+        && !cut.passes && cut.item == 1 && cut.place == WICK_BASIC_BYTES && cut.count == 1;
 }
 
 // An event without data is as long as the least that the header names, one of all its data as long as the most and with its data where
@@ -218,6 +245,6 @@ int main() {
     const struct wick_reply r = wick_reply(frame, sizeof frame);
     const struct wick_wrote w = wick_write_reply(WICK_REPLY_ANSWER, r.sequence, frame + r.data_at, r.n, out, sizeof out);
     const struct wick_given v = wick_feed(WICK_REPLY_LINE, wick_reader(), out, w.count);
-    return r.refusal == WICK_OK && w.count == sizeof frame && v.has_item && v.item == 0 && v.count == w.count && scenes() && colours() && retired() && layouts()
+    return r.refusal == WICK_OK && w.count == sizeof frame && v.has_item && v.item == 0 && v.count == w.count && scenes() && colours() && retired() && quiet() && layouts()
         ? 0 : 1;
 }

@@ -9,8 +9,8 @@
 
    `refusal` is 0 where a call is not refused; then the fields count. Else it is one of enum wick_refusal, and all other fields are 0 (but
    for a book, and for mark, summary and bytes in use of an append or of a run of datagrams, which are handed back as they were). The lowest
-   number that applies is given, but for 17, which comes right behind 3; calls of a capture give the first in the order in which their refusals
-   stand below. A refused writer writes no byte; one that is not refused writes `count` bytes, and leaves those behind them. */
+   number that applies is given, but for 17, which comes right behind 3, and 13, which comes right before 8; calls of a capture give the first in the
+   order in which their refusals stand below. A refused writer writes no byte; one that is not refused writes `count` bytes, and leaves those behind them. */
 #ifndef WICKANCHOR_H
 #define WICKANCHOR_H
 
@@ -23,8 +23,9 @@
    20, which has a name. 8: the same part by part: wick_seasons_begin, wick_seasons_part, wick_seasons_end. 9: colour requests (W-202): the
    functions whose names begin with wick_write_colour, command 0E, which has a name, and the colour in struct wick_request, which is longer; a
    reader of a request line holds up to 12 bytes. 10: command 0A is retired (W-210): refusal 17, which has a name, and `retired` in struct
-   wick_request, in the place of a byte that said nothing, so that no other field moves. */
-#define WICKANCHOR_VERSION 10
+   wick_request, in the place of a byte that said nothing, so that no other field moves. 11: the quiet profile (W-203): the functions whose names
+   end in _quiet, wick_inside, wick_quiet, and refusal 13, which has a name. */
+#define WICKANCHOR_VERSION 11
 
 #ifdef __cplusplus
 extern "C" {
@@ -91,6 +92,7 @@ enum wick_refusal {
     WICK_NOT_AWAITED = 10,          /* a reply's sequence number */
     WICK_BAD_DATA_SIZE = 11,        /* of reply data */
     WICK_NONE_THERE = 12,           /* lowest of an empty map; no such filter entry; no record behind the last */
+    WICK_OUTSIDE_PROFILE = 13,      /* a command outside the quiet profile, in writing under it; it comes behind 7 and before 8 */
     WICK_UNKNOWN_VERSION = 14,      /* of a capture */
     WICK_BAD_RECORD = 15,           /* cut short, of length under 4, of seconds below the one before, or whose datagram its layout refuses;
                                        also a capture of no version byte, or with more bytes in use than there are; also a run of
@@ -342,6 +344,15 @@ struct wick_item {
     uint64_t count;
 };
 
+/* The quiet profile applied to a finished run of requests. Where it does not pass: the first item that is not 0 with a command inside the
+   profile */
+struct wick_quiet {
+    uint8_t passes;                 /* 1 or 0; where it is 1, all other fields are 0 */
+    uint8_t item;                   /* its number: 0 for a request whose command is outside */
+    uint64_t place;                 /* where it begins: how many bytes of the run stand in front of it */
+    uint64_t count;                 /* how many bytes it has */
+};
+
 /* The version byte of a capture: the layout of its events */
 enum wick_capture_version {
     WICK_CAPTURE_THREE = 1,         /* the target has three bytes */
@@ -486,6 +497,7 @@ WICK_SIZE(struct wick_booked, 259);
 WICK_SIZE(struct wick_reader, 80);
 WICK_SIZE(struct wick_given, 176);
 WICK_SIZE(struct wick_item, 16);
+WICK_SIZE(struct wick_quiet, 24);
 WICK_SIZE(struct wick_summary, 60);
 WICK_SIZE(struct wick_mark, 16);
 WICK_SIZE(struct wick_capture, 88);
@@ -516,6 +528,15 @@ struct wick_wrote wick_write_colour_xy(uint8_t sequence, uint8_t target, uint8_t
 struct wick_wrote wick_write_colour_tc(uint8_t sequence, uint8_t target, uint8_t level, uint16_t tc, uint8_t *out, uint64_t room);
 struct wick_wrote wick_write_colour_rgbwaf(uint8_t sequence, uint8_t target, uint8_t level, uint8_t red, uint8_t green, uint8_t blue,
                                            uint8_t white, uint8_t amber, uint8_t free, uint8_t *out, uint64_t room);
+
+/* The same under the quiet profile, for clients who allow asking and never switching: only commands for which wick_inside is 1 are written. Refusal
+   13 behind 7 and before 8: so request 40 is always 13, and a colour request 7 or 13. */
+struct wick_wrote wick_write_basic_quiet(uint8_t sequence, uint8_t command, uint8_t a, uint8_t b, uint8_t c, uint8_t d, uint8_t *out, uint64_t room);
+struct wick_wrote wick_write_unicast_quiet(uint8_t sequence, uint16_t port, struct wick_address address, uint8_t *out, uint64_t room);
+struct wick_wrote wick_write_colour_xy_quiet(uint8_t sequence, uint8_t target, uint8_t level, uint16_t x, uint16_t y, uint8_t *out, uint64_t room);
+struct wick_wrote wick_write_colour_tc_quiet(uint8_t sequence, uint8_t target, uint8_t level, uint16_t tc, uint8_t *out, uint64_t room);
+struct wick_wrote wick_write_colour_rgbwaf_quiet(uint8_t sequence, uint8_t target, uint8_t level, uint8_t red, uint8_t green, uint8_t blue,
+                                                 uint8_t white, uint8_t amber, uint8_t free, uint8_t *out, uint64_t room);
 
 /* Reads a datagram of its family and writes it again, byte for byte. Refusals of the reader; then 17, for a request that is marked as
    retired; then 8. */
@@ -558,6 +579,9 @@ uint8_t wick_sum(const uint8_t *bytes, uint64_t length);
 
 /* 1 where the command is one of the 33, else 0. */
 uint8_t wick_known(uint8_t command);
+
+/* 1 where the command is inside the quiet profile, else 0: 18 of the 33 are, all queries. WICK_QUERY_SCENE_NUMBERS is one, though it is retired. */
+uint8_t wick_inside(uint8_t command);
 
 /* Maps in reply data, as one number whose bit k stands for event type, scene, gear or gear type k. Refusal 11 where there are not 2, 2, 8 or 4
    bytes. */
@@ -609,6 +633,10 @@ struct wick_given wick_close(uint8_t line, struct wick_reader reader);
 
 /* What stands at a position of a line from which on these bytes are there. `closed` is not 0 where no more come. */
 struct wick_item wick_item_at(uint8_t line, uint8_t closed, const uint8_t *bytes, uint64_t length);
+
+/* The quiet profile applied to a finished run of bytes, before it goes to a controller: it passes where it is requests one behind the other and
+   nothing else, each accepted and inside the profile (also one with a retired command). A run of no bytes passes. */
+struct wick_quiet wick_quiet(const uint8_t *bytes, uint64_t length);
 
 /* A capture is the first `used` bytes of a buffer: a version byte, then records one behind the other, each a length in two bytes, which
    counts what follows it, seconds in four, and an event's datagram; all numbers high byte first. Seconds never fall.

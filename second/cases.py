@@ -2,6 +2,7 @@
 
     python3 second/cases.py > calls
     python3 second/cases.py count      (how many lines of each kind)
+    python3 second/cases.py run > run  (the bytes that the program quiet is run on)
 """
 
 import os
@@ -3178,12 +3179,359 @@ def retired_streams():
 
 
 def retired_on_lines():
-    """The last line of all is a request with 0A, and has no line feed."""
+    """Lines of 0A, and at the end a request with it."""
     for part in [cut_retired_lines(), settled_retired(), closed_retired_lines(), retired_readers_handed_in(), retired_streams()]:
         yield from part
     for stream in RETIRED_LINES:
         yield from read_from_line(stream)
     yield call("request", plain(0, 0x0A))
+
+
+# W-203: the quiet profile
+
+# The known commands inside it and outside it.
+INSIDE = [command for command in sorted(KNOWN + [0x0E]) if opinion.inside(command)]
+OUTSIDE = [command for command in sorted(KNOWN + [0x0E]) if not opinion.inside(command)]
+
+
+def with_and_without(name, head, buffer):
+    """The writer's call without the profile and under it."""
+    return [call(name, head, buffer), call(name + "_quiet", head, buffer)]
+
+
+# Writing
+
+def commands_and_the_profile():
+    """Every command byte: inside or outside."""
+    for command in range(256):
+        yield call("inside", [command])
+
+
+def quiet_and_plain():
+    """Every command byte with arguments in range and outside, into buffers long enough, one byte short and of no bytes: every choice of faults."""
+    for command in range(256):
+        good = frame_of(command, command)[1:7]
+        for head in [good, good[:2] + b"\xFF" * 4]:
+            for size in [8 + command % 2, 7, 0]:
+                yield from with_and_without("write_basic", head, pattern(size))
+
+
+# Both sides of the edges that each place has in the table.
+PLACE_EDGES = [
+    [0, 1, 15, 16, 63, 64, 79, 80, 81, 126, 127, 128, 195, 196, 254, 255],
+    [1, 12, 13, 31, 32, 63, 64, 255],
+    [1, 255],
+    [1, 15, 16, 31, 32, 254, 255],
+]
+
+
+def quiet_arguments():
+    """Each basic command with each place at its edges, the others good: into a buffer that is long enough, and one byte short where the value is odd."""
+    for command in sorted(opinion.BASIC):
+        for arguments in good_arguments(command, min):
+            for place, values in enumerate(PLACE_EDGES):
+                for value in values:
+                    yield call("write_basic_quiet", bytes([place, command]) + replaced(arguments, place, value), pattern(8 - value % 2))
+
+
+def quiet_buffers():
+    """Some commands into buffers of every size about the frame's, and sequence numbers that are commands too."""
+    for command in [0x01, 0x20, 0xAE, 0x0A, 0x08, 0xA9]:
+        for size in range(11):
+            yield call("write_basic_quiet", frame_of(command, 5)[1:7], pattern(size))
+    for sequence in [0, 1, 4, 8, 9, 10, 0x31, 0x40, 127, 128, 0xA0, 0xA9, 254, 255]:
+        for command in [0x09, 0xA9]:
+            yield call("write_basic_quiet", frame_of(command, sequence)[1:7], pattern(9))
+
+
+def quiet_unicasts():
+    """Request 40: always outside, whatever the buffer."""
+    for port, address in [(8811, [192, 168, 10, 10]), (0, [0, 0, 0, 0]), (65535, [255, 255, 255, 255])]:
+        for size in range(14):
+            yield call("write_unicast_quiet", b"\x09" + wide(port, 2) + bytes(address), pattern(size))
+    for value in range(0, 256, 17):
+        yield from with_and_without("write_unicast", bytes([value] * 7), pattern(10 + value % 2))
+
+
+def quiet_colours():
+    """Colour requests: every address with one of the types, and those about the edges with each, into buffers of several sizes."""
+    for address in range(256):
+        name, _, data = COLOURS[address % 3]
+        yield write_colour(name + "_quiet", data, pattern(13), address, address)
+    for address in COLOUR_ADDRESSES:
+        for name, _, data in COLOURS:
+            for size in [0, len(data) + 6, len(data) + 7, len(data) + 8]:
+                yield write_colour(name + "_quiet", data, pattern(size), 7, address, 128)
+
+
+def name_of_outside():
+    """The name of 13 into buffers of every size about it; its neighbours, 13 read as hexadecimal, and as a number of the other kinds."""
+    for size in range(18):
+        yield call("name", [0, 13], pattern(size))
+    for kind, number in [(0, 12), (0, 14), (0, 0x13), (1, 13), (2, 13), (3, 13), (4, 13), (5, 13)]:
+        yield call("name", [kind, number], pattern(17))
+
+
+def quiet_writing():
+    for part in [commands_and_the_profile(), quiet_and_plain(), quiet_arguments(), quiet_buffers(), quiet_unicasts(), quiet_colours(),
+                 name_of_outside()]:
+        yield from part
+
+
+# Lines that are no call of the profile, by the rows of the table, from its second; and the longest run that a line holds.
+QUIET_NO_CALLS = [
+    filled("quiet" + " 04" * 1363, 4095), filled("quiet", 4095), filled("inside 09", 4095),
+    filled("write_basic_quiet 00 09 00 00 00 00 /" + " 00" * 1352, 4095),
+
+    "Quiet", "QUIET 04", "quiets", "quie", "quiet_", "quiet_request 04", "quiet_reply", "is_quiet", "Inside 01", "insides 01", "insid 01", "outside 01",
+    "in 01", "profile", "write_quiet", "write_basic_quiet_", "write_basic_quie 00 09 00 00 00 00 /", "write_basicquiet", "write_basic_Quiet",
+    "quiet_write_basic", "write_colour_quiet", "write_colour_quiet_xy", "write_colour_xyz_quiet", "write_reply_quiet A0 00 / / 00", "write_event_quiet",
+    "relay_request_quiet /", "ask_quiet 01", "fits_quiet 01 00 00 00 00", "write_unicast_quiet_quiet",
+
+    "quiet 4", "quiet 04 0", "quiet 0400", "quiet 0x04", "quiet //", "quiet zz", "quiet 04 00 \r", "inside 1", "inside 009", "inside zz", "inside / zz",
+    "write_basic_quiet 00 09 00 00 00 0 /", "write_unicast_quiet 00 22 6B C0 A8 0A 0A /00", "write_colour_tc_quiet 00 01 FE 01 7 /",
+
+    "quiet /", "quiet / /", "quiet 04 / 00", "quiet / 04 00 09 00 00 00 00 0D", "quiet 04 00 09 00 00 00 00 0D /", "inside /", "inside 01 / 09", "inside / 01",
+    "write_basic_quiet", "write_basic_quiet 00 09 00 00 00 00", "write_basic_quiet 00 09 00 00 00 00 / 00 / 00", "write_basic_quiet / /",
+    "write_unicast_quiet", "write_unicast_quiet 00 22 6B C0 A8 0A 0A", "write_unicast_quiet 00 / 22 6B / C0 A8 0A 0A",
+    "write_colour_xy_quiet", "write_colour_xy_quiet 00 01 FE 12 34 56 78", "write_colour_tc_quiet 00 01 FE / 01 72 / 00",
+    "write_colour_tc_quiet 00 01 FE 01 72", "write_colour_rgbwaf_quiet", "write_colour_rgbwaf_quiet 00 01 FE / 01 02 03 04 05 06 /",
+
+    "inside", "inside 01 09", "inside 01 02 03 04", "write_basic_quiet /", "write_basic_quiet / 00", "write_basic_quiet 00 09 00 00 00 /",
+    "write_basic_quiet 00 A9 00 00 00 00 00 / 00", "write_unicast_quiet /", "write_unicast_quiet 00 22 6B C0 A8 0A / 00",
+    "write_unicast_quiet 00 22 6B C0 A8 0A 0A 0A / 00", "write_colour_xy_quiet /", "write_colour_xy_quiet 00 01 FE 12 34 56 / 00",
+    "write_colour_xy_quiet 00 01 FE 12 34 56 78 9A / 00", "write_colour_tc_quiet / 00", "write_colour_tc_quiet 00 01 FE 01 /",
+    "write_colour_tc_quiet 00 01 FE 01 72 00 / 00", "write_colour_rgbwaf_quiet /", "write_colour_rgbwaf_quiet 00 01 FE 01 02 03 04 05 /",
+    "write_colour_rgbwaf_quiet 00 01 FE 01 02 03 04 05 06 07 / 00",
+]
+
+# With several blanks and small letters.
+QUIET_CALLS_SET_OTHERWISE = [
+    "  quiet  ", " quiet  04 00  09  00 00 00 00 0d ", "quiet 04 00 ab 4f 00 00 00 e0", "quiet 04 00 a9 4f 00 00 00 e2", " inside  aE ", "inside a9",
+    "  write_basic_quiet  00 aa 4f 00 00 00  /  00 00 00 00 00 00 00 fF ", "write_basic_quiet 00 a9 4f 00 00 00 /",
+    " write_unicast_quiet 00 22 6b c0 a8 0a 0a  /  ff", "write_colour_tc_quiet 00 7f fe 01 72 /  ", " write_colour_xy_quiet 00 fe fe 12 34 56 78 / aa",
+]
+
+
+def no_quiet_calls():
+    yield from QUIET_NO_CALLS + QUIET_CALLS_SET_OTHERWISE
+
+
+# Runs
+
+def quiet(*pieces):
+    """The call with the pieces of a run one behind the other."""
+    return call("quiet", b"".join(pieces))
+
+
+# A good frame of every command inside; and every kind of good frame outside, of all colour types too.
+INSIDE_FRAMES = [frame_of(command, 255 - command) for command in INSIDE]
+OUTSIDE_FRAMES = [frame_of(command, command) for command in OUTSIDE if command != 0x0E] + COLOUR_FRAMES
+
+# Six frames inside, of as many rules; among their bytes leads, commands that are outside and unknown ones.
+SIX = [plain(0xA9, 0x09), basic(4, 0x20, [0, 4, 0, 0x40]), basic(0x40, 0x1B, [15, 12, 0, 0]), basic(8, 0x32, [64, 63, 0, 31]),
+       basic(0x0E, 0xAB, [81, 0, 0, 0]), basic(0, 0x0C, [127, 0, 0, 4])]
+
+
+def at_each_end(piece, frames=SIX):
+    """The piece alone, in front of the frames, in their middle and behind them."""
+    middle = len(frames) // 2
+    return [quiet(piece), quiet(piece, *frames), quiet(*frames[:middle] + [piece] + frames[middle:]), quiet(*frames + [piece])]
+
+
+def frames_alone():
+    """No byte; a frame of every command byte, of every sequence number, and every byte alone."""
+    yield quiet()
+    for command in range(256):
+        yield quiet(frame_of(command, 0))
+    for sequence in range(256):
+        yield quiet(plain(sequence, INSIDE[1 + sequence % 3]))
+    for byte in [0, 1, 3, 4, 5, 9, 0x40, 0x7F, 0x80, 0x9F, 0xA0, 0xA3, 0xA4, 0xFF]:
+        yield quiet(bytes([byte]))
+
+
+def good_runs():
+    """So many good frames inside, to the most that a line holds; then with a frame outside behind them, in their middle and in front."""
+    for count in list(range(1, 41)) + [100, 127, 128, 168, 170]:
+        frames = [INSIDE_FRAMES[place * 5 % 18] for place in range(count)]
+        yield quiet(*frames)
+        frame = OUTSIDE_FRAMES[count % 14]
+        yield quiet(*frames[:-1] + [frame])
+        yield quiet(*frames[:count // 2] + [frame] + frames[count // 2 + 1:])
+        yield quiet(*[frame] + frames[1:])
+    yield quiet(*INSIDE_FRAMES)
+    for frame in INSIDE_FRAMES:
+        yield quiet(frame, frame)
+
+
+def one_frame_among_them():
+    """Each kind of good frame, inside and outside, alone, in front, in the middle and at the end; and two of them."""
+    for frame in INSIDE_FRAMES[1::2] + OUTSIDE_FRAMES:
+        yield from at_each_end(frame)
+    for frame in OUTSIDE_FRAMES:
+        yield quiet(frame, frame)
+
+
+def cut_quiet_runs():
+    """A run of all commands inside cut at every place; and a frame of each size that is outside, cut at every place behind a good one."""
+    run = b"".join(INSIDE_FRAMES)
+    for place in range(len(run)):
+        yield quiet(run[:place])
+    for place in range(1, 48):
+        yield quiet(b"".join(SIX)[place:])
+    for frame in [unicast(3, pattern(6))] + COLOUR_FRAMES:
+        for place in range(len(frame)):
+            yield quiet(SIX[0], frame[:place])
+
+
+def one_byte_of_noise():
+    """Six frames with one byte more at every place, one less, and one changed, with the frame's sum as it was and put right."""
+    run = b"".join(SIX)
+    for place in range(len(run) + 1):
+        for byte in [0x00, 0x04, 0xA0, 0xFF]:
+            yield quiet(run[:place], bytes([byte]), run[place:])
+    for place in range(len(run)):
+        yield quiet(run[:place], run[place + 1:])
+    for number, frame in enumerate(SIX):
+        for changed in byte_changes(frame, range(len(frame))):
+            yield quiet(*SIX[:number] + [changed] + SIX[number + 1:])
+
+
+def damaged_and_quiet():
+    """Frames of each command inside with a wrong sum and with arguments about their ranges; alone, before and behind a good one."""
+    for frame in INSIDE_FRAMES:
+        for run in [spoilt(frame), frame[:-1] + bytes([frame[-1] ^ 0x80])]:
+            yield from [quiet(run), quiet(run, SIX[0]), quiet(SIX[0], run)]
+        for arguments in with_each_place(frame[3:7], [0, 1, 255]):
+            yield quiet(SIX[2], basic(frame[1], frame[2], arguments))
+        yield quiet(basic(frame[1], frame[2], b"\xFF" * 4), SIX[0])
+
+
+def unknown_and_quiet():
+    """Unknown commands, length bytes of 40, colour types of no list, addresses that are none: alone, in front, in the middle and at the end."""
+    pieces = [plain(1, command) for command in [0x00, 0x02, 0x0D, 0x0F, 0x13, 0x21, 0x30, 0x35, 0x3F, 0x42, 0x9F, 0xAF, 0xFF]]
+    pieces += [resummed(replaced(unicast(2, pattern(6)), 3, length)) for length in [0, 5, 7, 8, 255]]
+    pieces += [colour(type_, pattern(2), 3) for type_ in UNLISTED_TYPES] + [PRINTED_COLOUR]
+    pieces += [colour(type_, data, 4, address) for _, type_, data in COLOURS for address in [0, 79, 80, 255]]
+    pieces += [spoilt(frame) for frame in COLOUR_FRAMES + [unicast(5, pattern(6))]]
+    for piece in pieces:
+        yield from at_each_end(piece)
+
+
+def retired_and_quiet():
+    """0A is inside: alone, among others and many times; with a wrong sum, with arguments that are not 0, cut, and beside a frame outside."""
+    frame = plain(10, 0x0A)
+    yield from at_each_end(frame) + at_each_end(spoilt(frame)) + at_each_end(basic(0, 0x0A, [0, 0, 0, 1]))
+    yield from [quiet(*[frame] * count) for count in range(2, 12)]
+    yield from [quiet(frame, frame[:size]) for size in range(8)]
+    yield from [quiet(frame, outside) for outside in OUTSIDE_FRAMES] + [quiet(outside, frame) for outside in OUTSIDE_FRAMES]
+
+
+def replies_and_quiet():
+    """Replies and events in a run, whole and cut: no request begins there. Bytes of theirs inside a frame are its arguments."""
+    others = [reply(0xA0, 0, b""), reply(0xA1, 0, bytes([7, 15])), reply(0xA2, 4, b""), reply(0xA3, 4, bytes([0xB1])), reply(0xA1, 0, SIX[0]),
+              event(59, 3, b""), event(59, 0, bytes([5]), 2), bytes(8), b"\xFF" * 8, b"\x04" * 8, b"\n", b"\r\n"]
+    for run in others:
+        yield from at_each_end(run)
+    for arguments in [[0, 0xA0, 0, 0], [0, 0xA1, 0, 2], [0, 0x5A, 0x43, 4], [0, 4, 0, 0xA9], [0, 4, 0, 0x40], [0, 4, 0, 0x0E], [0, 0x0A, 0x0A, 0x0A]]:
+        yield from [quiet(basic(4, 0x20, arguments)), quiet(basic(0xA0, 0x20, arguments), plain(0, 0x41))]
+
+
+# Two frames of 20 each, between whose bytes, from the fifth on, a good frame outside lies: a request 40, and a colour request. Read from the first
+# byte both are inside.
+def first_of_two(command, fourth):
+    """A frame of 20 with 04, a sequence number and the command as its last arguments, and the wanted byte behind it as its sum."""
+    return bytes([0x04, 0x20 ^ command ^ fourth, 0x20, 0x00, 0x04, 0x00, command, fourth])
+
+
+def second_of_two(sequence, hidden, place):
+    """A frame of 20 whose argument at the place ends the frame that lies hidden, of which these bytes stand before."""
+    head = bytes([0x04, sequence, 0x20, 0x00, 0x11, 0x22, 0x33])[:3 + place]
+    return summed((head + bytes([opinion.exclusive_or(hidden + head)]) + bytes(3))[:7])
+
+
+HIDING = [
+    first_of_two(0x40, 0x06) + second_of_two(9, bytes([0x04, 0x00, 0x40, 0x06]), 3),
+    first_of_two(0x0E, 0x7F) + second_of_two(0x20, bytes([0x04, 0x00, 0x0E, 0x7F]), 1),
+]
+
+
+def frames_that_lie_hidden():
+    """A frame outside between the bytes of two inside; with bytes in front taken away; and outside and inside frames within a wrong sum."""
+    for run in HIDING:
+        yield from [quiet(run), quiet(run, SIX[0]), quiet(SIX[0], run), quiet(run, run)]
+        for place in range(1, 9):
+            yield quiet(run[place:])
+    for frame in [SIX[0], plain(0, 0x0A)] + OUTSIDE_FRAMES[-5:]:
+        for front in [bytes([0x04]), bytes([0x04, 0x00, 0x01]), bytes([0x04, 0x00, 0x0E, 0x01, 0xFE, 0x80]), bytes([0x04, 0x00, 0x40, 0x06])]:
+            yield quiet(front, frame)
+
+
+def some_inside(chance):
+    """A good frame of a command inside."""
+    command = chance.pick(INSIDE)
+    case = chance.pick(opinion.RULES[opinion.BASIC[command]].cases)
+    return basic(chance.below(256), command, [chance.pick(sorted(place)) for place in case])
+
+
+def some_outside(chance):
+    """A good frame of a command outside."""
+    command = chance.pick(OUTSIDE)
+    if command == 0x40:
+        return unicast(chance.below(256), chance.run(6))
+    if command == 0x0E:
+        return some_colour(chance)
+    case = chance.pick(opinion.RULES[opinion.BASIC[command]].cases)
+    return basic(chance.below(256), command, [chance.pick(sorted(place)) for place in case])
+
+
+def nearly_quiet(chance, count):
+    """So many good frames inside, and mostly one thing more among them."""
+    frames = [some_inside(chance) for _ in range(count)]
+    frame = some_inside(chance)
+    thing = chance.pick([
+        b"", b"", frame,
+        some_outside(chance),
+        damaged_frame(chance, frame),
+        resummed(damaged_frame(chance, frame)),
+        chance.run(1),
+        frame[:chance.below(8)],
+        request_piece(chance),
+        some_reply(chance)[:12],
+    ])
+    place = chance.pick([0, chance.below(count + 1), count])
+    return b"".join(frames[:place] + [thing] + frames[place:])
+
+
+def quiet_runs_by_chance():
+    """Runs of frames inside with one thing more, cut here and there; and streams of every kind of piece."""
+    chance = Chance(18)
+    for _ in range(420):
+        run = nearly_quiet(chance, chance.below(chance.pick([3, 12])))
+        yield quiet(run[:chance.below(len(run) + 1)] if chance.one_in(12) else run)
+    for piece in [request_piece, colour_piece, retired_piece]:
+        for _ in range(30):
+            yield quiet(stream_of(piece, chance))
+
+
+def quiet_beside_the_readers():
+    """The reader of the request line that is carried stays as it is, and its bytes have no part in a run."""
+    yield from ["fresh_request", "fresh_reply", call("feed_request", SIX[0][:5]), call("feed_reply", [0xA1, 0])]
+    yield from [quiet(SIX[0][5:]), quiet(SIX[0]), quiet(), quiet(OUTSIDE_FRAMES[0]), "show_request", "show_reply"]
+    yield from [call("feed_request", SIX[0][5:]), quiet(SIX[0][:3]), call("feed_request", SIX[1][:2]), quiet(SIX[1][2:]), "close_request", "close_request"]
+    yield from [quiet(SIX[1]), "close_request", "close_reply", "close_reply", "close_reply"]
+
+
+# What the program quiet is run on: every command inside, some twice, and then one that is outside.
+QUIET_RUN = b"".join(INSIDE_FRAMES + [SIX[1], SIX[3], SIX[4]]) + basic(21, 0xA1, [79, 0, 0, 15])
+
+
+def quiet_runs():
+    """The last line of all is a run with 0A, and has no line feed."""
+    for part in [frames_alone(), good_runs(), one_frame_among_them(), cut_quiet_runs(), one_byte_of_noise(), damaged_and_quiet(), unknown_and_quiet(),
+                 retired_and_quiet(), replies_and_quiet(), frames_that_lie_hidden(), quiet_runs_by_chance(), quiet_beside_the_readers()]:
+        yield from part
+    yield from [quiet(QUIET_RUN), quiet(QUIET_RUN[:-8]), quiet(SIX[0], plain(0, 0x0A))]
 
 
 KINDS = [
@@ -3213,6 +3561,9 @@ KINDS = [
     ("lines that are no call of colour requests (W-202)", no_colour_calls),
     ("the retired command (W-210)", retired_command),
     ("the retired command on the line (W-210)", retired_on_lines),
+    ("the quiet profile in writing (W-203)", quiet_writing),
+    ("lines that are no call of the quiet profile (W-203)", no_quiet_calls),
+    ("the quiet profile of runs (W-203)", quiet_runs),
 ]
 
 
@@ -3221,6 +3572,8 @@ def main(arguments):
         for name, kind in KINDS:
             calls = list(kind())
             print("%7d lines %8d bytes  %s" % (len(calls), sum(len(line) + 1 for line in calls), name))
+    elif arguments == ["run"]:
+        sys.stdout.buffer.write(QUIET_RUN)
     else:
         # An empty line between the kinds; the last line ends with the input.
         calls = "\n\n".join("\n".join(kind()) for _, kind in KINDS)

@@ -209,6 +209,16 @@ def known(command):
     return command in [UNICAST, COLOUR] or command in BASIC
 
 
+# Document 02, W-203: "The set is a decision over the command number: 08, 31, 33, 40, A0-A9 and colour requests are outside it, each other known
+# command inside." Colour requests are those of W-202: 34 asks for a colour and is inside.
+OUTSIDE = frozenset([0x08, COLOUR, 0x31, 0x33, UNICAST]) | span(0xA0, 0xA9)
+
+
+def inside(command):
+    """Whether the command is inside the quiet profile. An unknown number is not."""
+    return known(command) and command not in OUTSIDE
+
+
 # Document 02, W-210: "The source calls 0A legacy, since its reply does not say which group it means." It stays a known command. The source says
 # the same of 02 and 13, which are unknown.
 SCENE_LIST = 0x0A
@@ -264,25 +274,33 @@ def read_request(datagram):
     return Request(datagram[1], command, arguments, retired(command))
 
 
+# W-203: "a profile, chosen when a writer is called: only commands that query may be written". "13, outside the profile, comes after 7 and
+# before 8." Readers know no profile: "Readers still read everything."
+def write_request(quiet, sequence, command, content, buffer):
+    """Writes a request that has been judged but for the profile into the lent buffer, the command's content behind it; gives the count."""
+    refuse(13, quiet and not inside(command))
+    return write_frame([REQUEST_LEAD, sequence, command], content, buffer)
+
+
 # W-210: "17, retired, comes after 3 and before 4, in writing and asking only".
-def write_basic(sequence, command, arguments, buffer):
+def write_basic(sequence, command, arguments, buffer, quiet=False):
     """Writes a basic request into the lent buffer; gives the count."""
     refuse(3, command not in BASIC)
     refuse(17, retired(command))
     refuse(7, not fits(command, arguments))
-    return write_frame([REQUEST_LEAD, sequence, command], arguments, buffer)
+    return write_request(quiet, sequence, command, arguments, buffer)
 
 
-def write_unicast(sequence, port_and_address, buffer):
+def write_unicast(sequence, port_and_address, buffer, quiet=False):
     """Writes a request 40 into the lent buffer; gives the count."""
-    return write_frame([REQUEST_LEAD, sequence, UNICAST, UNICAST_LENGTH], port_and_address, buffer)
+    return write_request(quiet, sequence, UNICAST, bytes([UNICAST_LENGTH]) + port_and_address, buffer)
 
 
 # The colour type is the caller's choice among the three, so no 4 is given here.
-def write_colour(type_, sequence, address, level, data, buffer):
+def write_colour(type_, sequence, address, level, data, buffer, quiet=False):
     """Writes a colour request of this type into the lent buffer; gives the count."""
     refuse(7, not fits(COLOUR, [address]))
-    return write_frame([REQUEST_LEAD, sequence, COLOUR, address, level, type_], data, buffer)
+    return write_request(quiet, sequence, COLOUR, bytes([address, level, type_]) + data, buffer)
 
 
 # Replies
@@ -518,6 +536,13 @@ def items(line, stream):
         number, count = settle(line, stream) or (1, 1)
         yield number, stream[:count]
         stream = stream[count:]
+
+
+# W-203: "the profile applied to a finished outgoing byte run: yes exactly if, read as a request line and closed, it gives only items 0 and each is
+# inside the profile". 0A is inside, so a run with it passes, though it may be written no more.
+def is_quiet(run):
+    """Whether the run passes the quiet profile. One of no bytes gives no item, and does."""
+    return all(number == 0 and inside(item[2]) for number, item in items("request", run))
 
 
 class Reader:
@@ -1097,7 +1122,7 @@ ERROR_CODE_NAMES = {
 REFUSAL_NAMES = {
     0: "OK", 1: "TOO_SHORT", 2: "BAD_LEAD", 3: "UNKNOWN_COMMAND", 4: "BAD_LENGTH_BYTE", 5: "BAD_LENGTH", 6: "BAD_SUM",
     7: "BAD_ARGUMENT", 8: "NO_ROOM", 9: "NO_NUMBER_FREE", 10: "NOT_AWAITED", 11: "BAD_DATA_SIZE", 12: "NONE_THERE",
-    14: "UNKNOWN_VERSION", 15: "BAD_RECORD", 16: "EARLIER_TIME", 17: "RETIRED", 20: "NOT_RISING",
+    13: "OUTSIDE_PROFILE", 14: "UNKNOWN_VERSION", 15: "BAD_RECORD", 16: "EARLIER_TIME", 17: "RETIRED", 20: "NOT_RISING",
 }
 
 KIND_NAMES = [
@@ -1147,10 +1172,10 @@ def by(width, asked):
     return lambda *groups: asked(width, *groups)
 
 
-def write_colour_by(type_):
+def write_colour_by(type_, quiet=False):
     """The writer's call of one colour type: sequence, address and level, then the colour data, whose numbers stand high byte first in the
     frame too."""
-    return lambda head, buffer: write_colour(type_, head[0], head[1], head[2], head[3:], buffer)
+    return lambda head, buffer: write_colour(type_, head[0], head[1], head[2], head[3:], buffer, quiet)
 
 
 def write_event_by(width, head, data, buffer):
@@ -1166,6 +1191,13 @@ DATAGRAM_CALLS = {
     "write_colour_xy": ([exactly(7), SOME], lent(write_colour_by(XY))),
     "write_colour_tc": ([exactly(5), SOME], lent(write_colour_by(TC))),
     "write_colour_rgbwaf": ([exactly(9), SOME], lent(write_colour_by(RGBWAF))),
+    "write_basic_quiet": ([exactly(6), SOME],
+                          lent(lambda head, buffer: write_basic(head[0], head[1], head[2:], buffer, quiet=True))),
+    "write_unicast_quiet": ([exactly(7), SOME],
+                            lent(lambda head, buffer: write_unicast(head[0], head[1:], buffer, quiet=True))),
+    "write_colour_xy_quiet": ([exactly(7), SOME], lent(write_colour_by(XY, quiet=True))),
+    "write_colour_tc_quiet": ([exactly(5), SOME], lent(write_colour_by(TC, quiet=True))),
+    "write_colour_rgbwaf_quiet": ([exactly(9), SOME], lent(write_colour_by(RGBWAF, quiet=True))),
     "reply": ([SOME], plain(reply_fields)),
     "reply_data": ([SOME], plain(data_fields(read_reply))),
     "error_code": ([SOME], plain(error_code_fields)),
@@ -1189,6 +1221,7 @@ PART_CALLS = {
     "known": ([exactly(1)], plain(lambda command: ["known" if known(command[0]) else "unknown"])),
     "shape": ([exactly(1)], plain(lambda command: shape_fields(command[0]))),
     "fits": ([exactly(5)], plain(lambda run: fits_fields(run[0], run[1:]))),
+    "inside": ([exactly(1)], plain(lambda command: ["inside" if inside(command[0]) else "outside"])),
     "error_name": ([exactly(1)], plain(lambda code: error_name_fields(code[0]))),
     "event_type": ([exactly(1)], plain(lambda number: event_type_fields(number[0]))),
     "group_target": ([exactly(1)], plain(lambda group: ["target", group_target(group[0])])),
@@ -1214,6 +1247,12 @@ REPLY_DATA_CALLS = {
 }
 
 
+# The finished run is the call's own: the reader of the request line that is carried has no part in it.
+RUN_CALLS = {
+    "quiet": ([SOME], plain(lambda run: ["yes" if is_quiet(run) else "no"])),
+}
+
+
 class Bench:
     """One run of the bench, with the book, the two readers, the capture and the parts of another that it carries."""
 
@@ -1230,6 +1269,7 @@ class Bench:
         for line in ["request", "reply"]:
             self.readers[line] = Reader(line)
             self.calls.update(self.line_calls(line))
+        self.calls.update(RUN_CALLS)
         self.calls.update(self.capture_calls())
         self.calls.update(self.parts_calls())
         self.calls["help"] = ([exactly(0)], plain(lambda none: ["calls"] + list(self.calls)))

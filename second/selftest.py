@@ -1,4 +1,4 @@
-"""Self-checks of the second program: what the documents state, asked of second/opinion.py and second/sheet.py.
+"""Self-checks of the second program: what the documents state, asked of second/opinion.py, second/sheet.py and second/quiet.py.
 
     python3 second/selftest.py
 """
@@ -12,6 +12,7 @@ import unittest
 
 import cases
 import opinion
+import quiet
 import sheet
 
 # The bench cases of document 01 with the results that it states, and the example of docs/BENCH.md.
@@ -176,6 +177,70 @@ STATED_LATER = [
     ("feed_request", "0 taken 0 item 0 count 11 bytes 04 05 0E 4F 00 10 12 34 56 78 58"),
     ("hold_request 00 00 00 00 00 00 00 0D / 04 00 0E 01 FE 80 FF 00 00 00 00 00 8A", "0"),
     ("close_request", "0 empty"),
+    # W-203: "08, 31, 33, 40, A0-A9 and colour requests are outside it, each other known command inside"
+    ("inside 01", "0 inside"),
+    ("inside 08", "0 outside"),
+    ("inside 09", "0 inside"),
+    ("inside 0A", "0 inside"),
+    ("inside 0E", "0 outside"),
+    ("inside 31", "0 outside"),
+    ("inside 32", "0 inside"),
+    ("inside 33", "0 outside"),
+    ("inside 34", "0 inside"),
+    ("inside 40", "0 outside"),
+    ("inside 41", "0 inside"),
+    ("inside 9F", "0 outside"),
+    ("inside A0", "0 outside"),
+    ("inside A9", "0 outside"),
+    ("inside AA", "0 inside"),
+    ("inside AE", "0 inside"),
+    ("inside AF", "0 outside"),
+    ("inside 02", "0 outside"),
+    # "only commands that query may be written"
+    ("write_basic_quiet 00 01 0A 00 00 00 / FF FF FF FF FF FF FF FF FF",
+     "0 count 8 before FF FF FF FF FF FF FF FF FF after 04 00 01 0A 00 00 00 0F FF"),
+    ("write_basic_quiet 00 A9 4F 00 00 00 / FF FF FF FF FF FF FF FF", "13 before FF FF FF FF FF FF FF FF after FF FF FF FF FF FF FF FF"),
+    ("write_basic 00 A9 4F 00 00 00 / FF FF FF FF FF FF FF FF", "0 count 8 before FF FF FF FF FF FF FF FF after 04 00 A9 4F 00 00 00 E2"),
+    # 3, 17, 7, 13, 8: "13, outside the profile, comes after 7 and before 8"
+    ("write_basic_quiet 00 02 FF FF FF FF /", "3 before after"),
+    ("write_basic_quiet 00 40 06 22 6B C0 /", "3 before after"),
+    ("write_basic_quiet 00 0E 01 FE 20 01 /", "3 before after"),
+    ("write_basic_quiet 00 0A 00 00 00 00 / FF FF FF FF FF FF FF FF", "17 before FF FF FF FF FF FF FF FF after FF FF FF FF FF FF FF FF"),
+    ("write_basic_quiet 00 0A FF 00 00 00 /", "17 before after"),
+    ("write_basic_quiet 00 A9 50 00 00 00 /", "7 before after"),
+    ("write_basic_quiet 00 AA 50 00 00 00 /", "7 before after"),
+    ("write_basic_quiet 00 A9 4F 00 00 00 /", "13 before after"),
+    ("write_basic_quiet 00 08 C3 00 00 00 / FF", "13 before FF after FF"),
+    ("write_basic_quiet 00 AA 4F 00 00 00 / FF FF FF FF FF FF FF", "8 before FF FF FF FF FF FF FF after FF FF FF FF FF FF FF"),
+    # "`write_unicast_quiet` is always 13, a colour one 7 or 13"
+    ("write_unicast_quiet 00 22 6B C0 A8 0A 0A /", "13 before after"),
+    ("write_unicast_quiet 00 22 6B C0 A8 0A 0A / 01 02 03 04 05 06 07 08 09 0A 0B",
+     "13 before 01 02 03 04 05 06 07 08 09 0A 0B after 01 02 03 04 05 06 07 08 09 0A 0B"),
+    ("write_colour_xy_quiet 00 50 FE 12 34 56 78 /", "7 before after"),
+    ("write_colour_xy_quiet 00 4F FE 12 34 56 78 /", "13 before after"),
+    ("write_colour_tc_quiet 00 7F FE 01 72 / 01 02 03 04 05 06 07 08 09", "13 before 01 02 03 04 05 06 07 08 09 after 01 02 03 04 05 06 07 08 09"),
+    ("write_colour_rgbwaf_quiet 00 FE FE 01 02 03 04 05 06 / FF", "7 before FF after FF"),
+    ("write_colour_rgbwaf_quiet 00 FF FE 01 02 03 04 05 06 / FF", "13 before FF after FF"),
+    # "Readers still read everything"
+    ("request 04 00 A9 4F 00 00 00 E2", "0 sequence 0 command A9 arguments 4F 00 00 00 group 15"),
+    ("relay_request 04 00 A9 4F 00 00 00 E2 / 00 00 00 00 00 00 00 00",
+     "0 count 8 before 00 00 00 00 00 00 00 00 after 04 00 A9 4F 00 00 00 E2"),
+    # "yes exactly if, read as a request line and closed, it gives only items 0 and each is inside the profile"
+    ("quiet", "0 yes"),
+    ("quiet 04 00 09 00 00 00 00 0D", "0 yes"),
+    ("quiet 04 00 0A 00 00 00 00 0E", "0 yes"),
+    ("quiet 04 00 34 00 00 00 00 30 04 00 01 0A 00 00 00 0F", "0 yes"),
+    ("quiet 04 00 A9 4F 00 00 00 E2", "0 no"),
+    ("quiet 04 00 09 00 00 00 00 0D 04 00 A9 4F 00 00 00 E2", "0 no"),
+    ("quiet 04 00 40 06 22 6B C0 A8 0A 0A 63", "0 no"),
+    ("quiet 04 00 0E 7F FE 20 01 72 D8", "0 no"),
+    ("quiet 04 00 09 00 00 00 00 0D 04", "0 no"),
+    ("quiet 04 00 09 00 00 00 00 0D 00", "0 no"),
+    ("quiet 04 00 09 00 00 00 00 0C", "0 no"),
+    ("quiet 04 00 09 01 00 00 00 0C", "0 no"),
+    ("quiet 04 00 02 00 00 00 00 06", "0 no"),
+    ("name 00 0D / FF FF FF FF FF FF FF FF FF FF FF FF FF FF FF",
+     "0 count 15 before FF FF FF FF FF FF FF FF FF FF FF FF FF FF FF after 4F 55 54 53 49 44 45 5F 50 52 4F 46 49 4C 45"),
     # W-206: "two target bytes"; source 002's own examples have them, with what it says of each byte
     ("event_two 5A 43 7C BA CC 2F 40 2E 00 3B 00 01 05 6D",
      "0 mac 7C BA CC 2F 40 2E target 59 type 0 BUTTON_PRESS n 1 instance 5"),
@@ -533,6 +598,29 @@ STATED_LATER = [
      four(NOTHING_IN_IT, NOTHING_IN_IT, NOTHING_IN_IT, "occupied 2 presses 0 holds 0 longest 4294967293 total 4294967293 gaps 1")),
 ]
 
+# docs/BENCH.md, "The program quiet": a run, and the line by the row of its item.
+STATED_LINES = [
+    ("", "yes"),
+    ("04 00 09 00 00 00 00 0D 04 00 0A 00 00 00 00 0E", "yes"),
+    ("04 00 09 00 00 00 00 0D 04 00 A9 4F 00 00 00 E2 FF", "no: item 0 at byte 8, 0400A94F000000E2: command A9 is outside the profile"),
+    ("04 00 40 06 22 6B C0 A8 0A 0A 63", "no: item 0 at byte 0, 04004006226BC0A80A0A63: command 40 is outside the profile"),
+    ("04 00 0E 7F FE 20 01 72 D8", "no: item 0 at byte 0, 04000E7FFE200172D8: command 0E is outside the profile"),
+    ("04 00 09 00 00 00 00 0D 04 00 09 00 00 00 00", "no: item 1 at byte 8, 04: the run ends inside a request"),
+    ("04", "no: item 1 at byte 0, 04: the run ends inside a request"),
+    ("04 00 09 00 00 00 00 0D FF 04", "no: item 2 at byte 8, FF: no request begins here"),
+    ("04 00 02", "no: item 3 at byte 0, 04: the command is unknown"),
+    ("04 00 40 07", "no: item 4 at byte 0, 04: no such length byte or colour type"),
+    ("04 00 0E 01 FE 00", "no: item 4 at byte 0, 04: no such length byte or colour type"),
+    ("04 00 09 00 00 00 00 0C", "no: item 6 at byte 0, 04: the sum is wrong"),
+    ("04 00 A9 4F 00 00 00 E3", "no: item 6 at byte 0, 04: the sum is wrong"),
+    ("04 00 09 00 00 00 00 0D 04 00 09 00 00 00 01 0C", "no: item 7 at byte 8, 040009000000010C: an argument is out of range"),
+    ("04 00 A9 50 00 00 00 FD", "no: item 7 at byte 0, 0400A950000000FD: an argument is out of range"),
+    ("04 00 0E 50 FE 20 01 72 F7", "no: item 7 at byte 0, 04000E50FE200172F7: an argument is out of range"),
+]
+
+# The commands inside the quiet profile: those of document 01's table but 08, 31, 33, 40 and A0 to A9.
+QUERIES = {0x01, 0x09, 0x0A, 0x0B, 0x0C, 0x1A, 0x1B, 0x1C, 0x1D, 0x20, 0x32, 0x34, 0x41, 0xAA, 0xAB, 0xAC, 0xAD, 0xAE}
+
 # The requests that source 002 prints, by the number that reading gives: as printed, and with the sum put right. The one with 4 is DALI_COLOUR.
 PRINTED_REQUESTS = {"0": 26, "3": 44, "4": 1, "6": 6}
 MENDED_REQUESTS = {"0": 32, "3": 44, "4": 1}
@@ -577,6 +665,22 @@ def read_as_request(datagram):
         return bool(opinion.read_request(datagram))
     except opinion.Refusal:
         return False
+
+
+def quiet_in_eights(run):
+    """Whether a run passes the quiet profile, cut every 8 bytes: all commands inside have the basic shape."""
+    eights = [run[place:place + 8] for place in range(0, len(run), 8)]
+    return all(read_as_request(eight) and eight[2] in QUERIES for eight in eights)
+
+
+def runs_for_the_profile():
+    """The runs of the cases, and some by chance."""
+    chance = cases.Chance(25)
+    for line in cases.quiet_runs():
+        if line.split(" ")[0] == "quiet":
+            yield bytes.fromhex(line[5:])
+    for _ in range(1000):
+        yield cases.nearly_quiet(chance, chance.below(8))
 
 
 def empty_capture(version, size):
@@ -932,6 +1036,81 @@ class SelfTest(unittest.TestCase):
                 self.assertEqual(answer.endswith(" retired"), number == 0 and run[2] == 0x0A)
                 marked += answer.endswith(" retired")
         self.assertGreater(marked, 100)
+
+    def test_commands_inside(self):
+        self.assertEqual({command for command in range(256) if opinion.inside(command)}, QUERIES)
+        known = {command for command in range(256) if opinion.known(command)}
+        self.assertEqual((len(known), len(QUERIES), len(known - QUERIES)), (33, 18, 15))
+        # "only commands that query": so the source's names say too
+        self.assertEqual({command for command, name in opinion.COMMAND_NAMES.items() if "QUERY" in name}, QUERIES)
+
+    def test_quiet_writing(self):
+        bench = opinion.Bench()
+        seen, written = set(), set()
+        for line in cases.quiet_writing():
+            name, _, groups = line.partition(" ")
+            if not name.endswith("_quiet"):
+                continue
+            plain = bench.answer((name[:-6] + " " + groups).encode("ascii"))
+            answer = bench.answer(line.encode("ascii"))
+            head, buffer = opinion.grouped(groups.encode("ascii").split())
+            command = head[1] if name == "write_basic_quiet" else 0x40 if name == "write_unicast_quiet" else 0x0E
+            number = plain.split(" ")[0]
+            seen.add((number, answer.split(" ")[0]))
+            if number in ["0", "8"] and command not in QUERIES:
+                self.assertEqual(answer, opinion.text([13, "before", buffer, "after", buffer]))
+            else:
+                self.assertEqual(answer, plain)
+            if number == "0" and command in QUERIES:
+                written.add(command)
+                words = answer.split(" ")
+                self.assertTrue(opinion.is_quiet(bytes.fromhex("".join(words[words.index("after") + 1:]))[:8]))
+        self.assertEqual(seen, {("0", "0"), ("0", "13"), ("3", "3"), ("7", "7"), ("8", "8"), ("8", "13"), ("17", "17")})
+        self.assertEqual(written, QUERIES - {0x0A})
+
+    def test_quiet_runs(self):
+        passed, refused = [], []
+        for run in runs_for_the_profile():
+            self.assertEqual(opinion.is_quiet(run), quiet_in_eights(run))
+            (passed if opinion.is_quiet(run) else refused).append(run)
+        self.assertGreater(min(len(passed), len(refused)), 500)
+        # a run that passes before another changes nothing, so passing runs may be put together
+        for number, front in enumerate(passed):
+            self.assertTrue(opinion.is_quiet(front + passed[-number]))
+            self.assertFalse(opinion.is_quiet(front + refused[number]))
+
+    def test_stated_lines(self):
+        for run, line in STATED_LINES:
+            self.assertEqual(quiet.line_of(bytes.fromhex(run)), line + "\n")
+        self.assertEqual({line.split(" ")[2] for _, line in STATED_LINES if line != "yes"}, {str(number) for number in quiet.REASONS})
+
+    def test_lines_of_runs(self):
+        chance = cases.Chance(26)
+        seen = set()
+        for run in runs_for_the_profile():
+            place, line = 0, "yes\n"
+            for number, item in items_call_by_call("request", cases.cut(run, chance)):
+                if number != 0 or item[2] not in QUERIES:
+                    line = "no: item %d at byte %d, %s: " % (number, place, "".join("%02X" % byte for byte in item))
+                    break
+                place += len(item)
+            found = quiet.line_of(run)
+            self.assertEqual(found[:len(line)], line)
+            self.assertEqual(found == "yes\n", opinion.is_quiet(run))
+            if found != "yes\n":
+                seen.add(number)
+                self.assertTrue(quiet_in_eights(run[:place]))
+                self.assertEqual(found[len(line):-1], "command %02X is outside the profile" % item[2] if number == 0 else quiet.REASONS[number])
+                # what is settled stays, whatever comes behind it
+                if number != 1:
+                    self.assertEqual(quiet.line_of(run + chance.run(3)), found)
+        self.assertEqual(seen, {0, 1, 2, 3, 4, 6, 7})
+
+    def test_run_of_the_program(self):
+        self.assertEqual(len(cases.QUIET_RUN), 22 * 8)
+        self.assertTrue(opinion.is_quiet(cases.QUIET_RUN[:-8]))
+        self.assertEqual({cases.QUIET_RUN[place + 2] for place in range(0, 21 * 8, 8)}, QUERIES)
+        self.assertEqual(quiet.line_of(cases.QUIET_RUN), "no: item 0 at byte 168, 0415A14F00000FF0: command A1 is outside the profile\n")
 
     def test_appends_by_the_letter_and_by_marks(self):
         for version, size, appends in runs_of_appends(cases.Chance(8)):

@@ -8,6 +8,7 @@
 typedef unsigned long size_t;
 
 void *malloc(size_t size);
+void *realloc(void *place, size_t size);
 void free(void *place);
 unsigned long strtoul(const char *text, char **end, int base);
 

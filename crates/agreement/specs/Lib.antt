@@ -2,5 +2,6 @@
 pub mod Verdict
 pub mod Agreement
 pub mod Retired
+pub mod Quiet
 -- what only serves proofs
 pub mod Framed

@@ -3,13 +3,14 @@
 use Prim.Native.Nat.{ℕ, zero, suc}
 use mathlib.Core.Path.{_≡_, refl, ap, _∙_}
 use mathlib.Core.Bool.{Bool, false}
-use mathlib.Core.List.{List, [], _∷_}
+use mathlib.Core.List.{List, [], _∷_, _++_}
 use lib.ListN.{length, take, drop}
 use native.Mathlib.Omega.{arith}
 use Rattle.refusal.specs.Test.{clash}
 use Rattle.refusal.specs.Answer.{Answer, refused, full}
 use Rattle.frame.specs.Frame.{byte}
 use Rattle.command.specs.Command.{isRetired}
+use Rattle.profile.specs.declared.Profile.{Profile}
 use Rattle.request.specs.Layout.{Fields}
 use Rattle.request.specs.Said.{Heard, markOf}
 use Rattle.request.specs.Reading.{readRequest}
@@ -63,14 +64,17 @@ items-marked s = go (length s) s
     go (suc n) [] = tt
     go (suc n) (b ∷ s) = (one (b ∷ s) (settle Request (b ∷ s)) refl, go n (drop (itemSize (settle Request (b ∷ s))) (b ∷ s)))
 
--- ANY RUN OF WRITERS' CALLS: the frames of those that are not refused, in their order
-abbrev put : Answer (List ℕ) → List (List ℕ) → List (List ℕ)
+-- ANY RUN OF WRITERS' CALLS, each under a profile of its own: the frames of those that are not refused, in their order
+pub data Call : Type 0 where
+  call : Profile → Fields → Call
+
+abbrev pub put : Answer (List ℕ) → List (List ℕ) → List (List ℕ)
 put (refused k) xs = xs
 put (full x) xs = x ∷ xs
 
-abbrev pub frames : List Fields → List (List ℕ)
+abbrev pub frames : List Call → List (List ℕ)
 frames [] = []
-frames (f ∷ fs) = put (frameOf f) (frames fs)
+frames (call p f ∷ cs) = put (frameOf p f) (frames cs)
 
 -- what such a run puts on a line reads as these frames, one after the other, and none of them is marked
 abbrev pub wholes : List (List ℕ) → List Item
@@ -81,27 +85,32 @@ abbrev pub NoneMarked : List (List ℕ) → Type 0
 NoneMarked [] = Unit {0}
 NoneMarked (x ∷ xs) = Reads x false × NoneMarked xs
 
-unmarked : (f : Fields) (x : List ℕ) → frameOf f ≡ full x → Reads x false
-unmarked f x e =
-    let w = written-unmarked f x e in
+pub unmarked : (p : Profile) (f : Fields) (x : List ℕ) → frameOf p f ≡ full x → Reads x false
+unmarked p f x e =
+    let w = written-unmarked p f x e in
     record { heard = w .0; full-reading = w .1; marked = w .2 }
 
-pub run-unmarked : (fs : List Fields) → NoneMarked (frames fs)
+pub run-unmarked : (cs : List Call) → NoneMarked (frames cs)
 run-unmarked [] = tt
-run-unmarked (f ∷ fs) = go (frameOf f) refl (run-unmarked fs)
+run-unmarked (call p f ∷ cs) = go (frameOf p f) refl (run-unmarked cs)
   where
-    go : (v : Answer (List ℕ)) → frameOf f ≡ v → NoneMarked (frames fs) → NoneMarked (put v (frames fs))
+    go : (v : Answer (List ℕ)) → frameOf p f ≡ v → NoneMarked (frames cs) → NoneMarked (put v (frames cs))
     go (refused k) e later = later
-    go (full x) e later = (unmarked f x e, later)
+    go (full x) e later = (unmarked p f x e, later)
 
-pub run-items : (fs : List Fields) → items (settle Request) (whole (frames fs)) ≡ wholes (frames fs)
+-- a frame that was written is the first item of what it is put in front of
+pub written-first : (p : Profile) (f : Fields) (x s : List ℕ) → frameOf p f ≡ full x
+    → items (settle Request) (x ++ s) ≡ reading 0 x ∷ items (settle Request) s
+written-first p f x s e =
+    let a : datagram Request x ≡ accepted = ap verdict (unmarked p f x e .full-reading) in
+    frame-items Request x s (accepted-is-0 Request x a)
+
+pub run-items : (cs : List Call) → items (settle Request) (whole (frames cs)) ≡ wholes (frames cs)
 unfolding whole
 run-items [] = items-none (settle Request) (lawful Request)
-run-items (f ∷ fs) = go (frameOf f) refl (run-items fs)
+run-items (call p f ∷ cs) = go (frameOf p f) refl (run-items cs)
   where
-    go : (v : Answer (List ℕ)) → frameOf f ≡ v → items (settle Request) (whole (frames fs)) ≡ wholes (frames fs)
-        → items (settle Request) (whole (put v (frames fs))) ≡ wholes (put v (frames fs))
+    go : (v : Answer (List ℕ)) → frameOf p f ≡ v → items (settle Request) (whole (frames cs)) ≡ wholes (frames cs)
+        → items (settle Request) (whole (put v (frames cs))) ≡ wholes (put v (frames cs))
     go (refused k) e later = later
-    go (full x) e later =
-        let a : datagram Request x ≡ accepted = ap verdict (unmarked f x e .full-reading) in
-        frame-items Request x (whole (frames fs)) (accepted-is-0 Request x a) ∙ behind later
+    go (full x) e later = written-first p f x (whole (frames cs)) e ∙ behind later

@@ -22,6 +22,7 @@ use event_type::EventType;
 use frame::Wrote;
 use line::Line;
 use meaning::Arguments;
+use profile::Profile;
 use reader::Held;
 use request::Ipv4;
 use target::Device;
@@ -83,15 +84,23 @@ fn write_event(layout: Layout, mac: Mac, head: &[u8], data: &[u8], buffer: &mut 
     writers::event(layout, mac, target, kind, data, buffer)
 }
 
+// The profile of a call that writes a request.
+fn profile_of(n: usize) -> Profile {
+    match n {
+        0x7A..=0x7E => Profile::Quiet,
+        _ => Profile::Open,
+    }
+}
+
 // Writes a colour request: sequence, target and level, and behind them the channels of its colour.
 fn write_colour(n: usize, head: &[u8], buffer: &mut [u8]) -> Wrote {
     let first = bench_words::wide16(bench_words::part(head, 3, 5));
     let colour = match n {
-        0x77 => Colour::Xy {
+        0x77 | 0x7C => Colour::Xy {
             x: first,
             y: bench_words::wide16(bench_words::part(head, 5, 7)),
         },
-        0x78 => Colour::Tc(first),
+        0x78 | 0x7D => Colour::Tc(first),
         _ => Colour::Rgbwaf {
             red: bench_words::byte_at(head, 3),
             green: bench_words::byte_at(head, 4),
@@ -103,6 +112,7 @@ fn write_colour(n: usize, head: &[u8], buffer: &mut [u8]) -> Wrote {
     };
     let target = LineTarget(bench_words::byte_at(head, 1));
     writers::colour(
+        profile_of(n),
         bench_words::byte_at(head, 0),
         target,
         bench_words::byte_at(head, 2),
@@ -120,26 +130,26 @@ fn write(n: usize, head: &[u8], data: &[u8], buffer: &mut [u8]) -> Wrote {
     let e = bench_words::byte_at(head, 4);
     let f = bench_words::byte_at(head, 5);
     match n {
-        0x70 => {
+        0x70 | 0x7A => {
             let arguments = Arguments {
                 a: c,
                 b: d,
                 c: e,
                 d: f,
             };
-            writers::basic(a, b, arguments, buffer)
+            writers::basic(profile_of(n), a, b, arguments, buffer)
         }
-        0x71 => {
+        0x71 | 0x7B => {
             let port = bench_words::wide16(bench_words::part(head, 1, 3));
             let address = Ipv4(d, e, f, bench_words::byte_at(head, 6));
-            writers::unicast(a, port, address, buffer)
+            writers::unicast(profile_of(n), a, port, address, buffer)
         }
         0x72 => relay::request(head, buffer),
         0x73 => relay::reply(head, buffer),
         0x74 => relay::event(Layout::Three, head, buffer),
         0x75 => names::name(a, b, buffer),
         0x76 => relay::event(Layout::Two, head, buffer),
-        0x77 | 0x78 | 0x79 => write_colour(n, head, buffer),
+        0x77 | 0x78 | 0x79 | 0x7C | 0x7D | 0x7E => write_colour(n, head, buffer),
         0x80 => writers::reply(a, b, data, buffer),
         0x81 => write_event(Layout::Three, Mac(a, b, c, d, e, f), head, data, buffer),
         0x82 => frame::write(head, data, buffer),
@@ -218,6 +228,8 @@ fn part(n: usize, s: &[u8]) -> Part {
         0x24 => Part::Name(error::name_of(b)),
         0x25 => Part::OnLine(Group(b).line_target()),
         0x26 => Part::Device(Device::of(b)),
+        0x28 => Part::Inside(profile::inside(b)),
+        0x29 => Part::Quiet(quiet_run::passes(s)),
         _ => Part::Number(Device(b).number()),
     }
 }

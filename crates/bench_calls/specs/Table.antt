@@ -21,6 +21,11 @@ table =
     ∷ row "write_colour_xy" 0x77_2_007_007_FFF
     ∷ row "write_colour_tc" 0x78_2_005_005_FFF
     ∷ row "write_colour_rgbwaf" 0x79_2_009_009_FFF
+    ∷ row "write_basic_quiet" 0x7A_2_006_006_FFF
+    ∷ row "write_unicast_quiet" 0x7B_2_007_007_FFF
+    ∷ row "write_colour_xy_quiet" 0x7C_2_007_007_FFF
+    ∷ row "write_colour_tc_quiet" 0x7D_2_005_005_FFF
+    ∷ row "write_colour_rgbwaf_quiet" 0x7E_2_009_009_FFF
     ∷ row "reply" 0x90_1_000_FFF_FFF
     ∷ row "reply_data" 0xA0_1_000_FFF_FFF
     ∷ row "error_code" 0x91_1_000_FFF_FFF
@@ -41,6 +46,7 @@ table =
     ∷ row "known" 0x21_1_001_001_FFF
     ∷ row "shape" 0x22_1_001_001_FFF
     ∷ row "fits" 0x23_1_005_005_FFF
+    ∷ row "inside" 0x28_1_001_001_FFF
     ∷ row "error_name" 0x24_1_001_001_FFF
     ∷ row "event_type" 0x93_1_001_001_FFF
     ∷ row "group_target" 0x25_1_001_001_FFF
@@ -82,6 +88,7 @@ table =
     ∷ row "show_reply" 0x64_1_000_000_FFF
     ∷ row "settle_reply" 0x65_1_000_FFF_FFF
     ∷ row "item_reply" 0x66_2_001_001_FFF
+    ∷ row "quiet" 0x29_1_000_FFF_FFF
     -- The capture
     ∷ row "capture_set" 0xC0_2_008_008_514
     ∷ row "summary_set" 0xC1_1_03A_03A_FFF

@@ -1,8 +1,6 @@
 // The calls of the bench: a constant table of their names, numbers and groups, and what a line calls by it. docs/BENCH.md,
 // "What is no call". It leans on crate bench_words, which takes a line apart, and on crate bench_say.
-ghost use Prim.Native.Nat.{_≤_};
 ghost use mathlib.Core.Path.{_≡_};
-ghost use lib.ListN.{length};
 ghost use Rattle.lent.specs.All.{PutsAll};
 ghost use Rattle.bench_words.specs.Words.{wordsAt};
 ghost use Rattle.bench_calls.specs.Table.{sameAs, placeIn, rowOf, helpTexts};
@@ -30,7 +28,7 @@ pub enum Called {
 // many the second has at most, as digits of one hexadecimal number. FFF is more than a line can name. A third group may
 // have any. The first digit of a call's number is its family: what is answered of it is of one kind. (7 and 8 write into a
 // buffer, which is their last group of two or of three; A gives the data of a datagram.) New calls stand behind those of theirs.
-const ROWS: [usize; 81] = [
+const ROWS: [usize; 88] = [
     // Datagrams
     0x10_1_000_FFF_FFF, // request
     0x70_2_006_006_FFF, // write_basic
@@ -38,6 +36,11 @@ const ROWS: [usize; 81] = [
     0x77_2_007_007_FFF, // write_colour_xy
     0x78_2_005_005_FFF, // write_colour_tc
     0x79_2_009_009_FFF, // write_colour_rgbwaf
+    0x7A_2_006_006_FFF, // write_basic_quiet
+    0x7B_2_007_007_FFF, // write_unicast_quiet
+    0x7C_2_007_007_FFF, // write_colour_xy_quiet
+    0x7D_2_005_005_FFF, // write_colour_tc_quiet
+    0x7E_2_009_009_FFF, // write_colour_rgbwaf_quiet
     0x90_1_000_FFF_FFF, // reply
     0xA0_1_000_FFF_FFF, // reply_data
     0x91_1_000_FFF_FFF, // error_code
@@ -58,6 +61,7 @@ const ROWS: [usize; 81] = [
     0x21_1_001_001_FFF, // known
     0x22_1_001_001_FFF, // shape
     0x23_1_005_005_FFF, // fits
+    0x28_1_001_001_FFF, // inside
     0x24_1_001_001_FFF, // error_name
     0x93_1_001_001_FFF, // event_type
     0x25_1_001_001_FFF, // group_target
@@ -99,6 +103,7 @@ const ROWS: [usize; 81] = [
     0x64_1_000_000_FFF, // show_reply
     0x65_1_000_FFF_FFF, // settle_reply
     0x66_2_001_001_FFF, // item_reply
+    0x29_1_000_FFF_FFF, // quiet
     // The capture
     0xC0_2_008_008_514, // capture_set
     0xC1_1_03A_03A_FFF, // summary_set
@@ -123,17 +128,19 @@ const ROWS: [usize; 81] = [
 ];
 
 // Their names, in the order of the rows, with a blank between two.
-const NAMES: [u8; 893] =
-    *b"request write_basic write_unicast write_colour_xy write_colour_tc write_colour_rgbwaf reply \
-reply_data error_code write_reply event event_data write_event event_two event_two_data \
-write_event_two relay_request relay_reply relay_event relay_event_two sum frame known shape \
-fits error_name event_type group_target lights status device device_number name high_first \
-mask count_types lowest_type scenes gear count_gear lowest_gear types filters filter \
-book_fresh book_set ask answer book_show fresh_request hold_request feed_request \
-close_request show_request settle_request item_request fresh_reply hold_reply feed_reply \
-close_reply show_reply settle_reply item_reply capture_set summary_set mark_set \
-capture_empty capture_append capture_append_at capture_run capture_run_at capture_open \
-capture_count capture_prefix capture_record capture_show seasons seasons_begin seasons_part \
+const NAMES: [u8; 1014] =
+    *b"request write_basic write_unicast write_colour_xy write_colour_tc write_colour_rgbwaf \
+write_basic_quiet write_unicast_quiet write_colour_xy_quiet write_colour_tc_quiet \
+write_colour_rgbwaf_quiet reply reply_data error_code write_reply event event_data \
+write_event event_two event_two_data write_event_two relay_request relay_reply \
+relay_event relay_event_two sum frame known shape fits inside error_name event_type \
+group_target lights status device device_number name high_first mask count_types \
+lowest_type scenes gear count_gear lowest_gear types filters filter book_fresh book_set \
+ask answer book_show fresh_request hold_request feed_request close_request show_request \
+settle_request item_request fresh_reply hold_reply feed_reply close_reply show_reply \
+settle_reply item_reply quiet capture_set summary_set mark_set capture_empty \
+capture_append capture_append_at capture_run capture_run_at capture_open capture_count \
+capture_prefix capture_record capture_show seasons seasons_begin seasons_part \
 seasons_end help";
 
 // Whether two runs hold the same bytes.
@@ -175,7 +182,7 @@ fn row_of(name: &[u8]) -> usize
     ensures { λ r. ⌜ r ≡ rowOf (now (name .entry)) ⌝ }
 {
     let k = place(&NAMES, name);
-    if k < 81 { ROWS[k] } else { 0 }
+    if k < 88 { ROWS[k] } else { 0 }
 }
 
 // Whether the groups are those that the row asks for.

@@ -1,4 +1,4 @@
--- docs/BENCH.md, "Parts of datagrams": the answers, case by case.
+-- docs/BENCH.md, "Parts of datagrams", and of "Lines" the call `quiet`: the answers, case by case.
 use Prim.Native.Nat.{ℕ}
 use mathlib.Core.Bool.{Bool, true, false}
 use mathlib.Core.List.{List, [], _∷_}
@@ -19,7 +19,7 @@ use Rattle.target.specs.declared.Numbered.the-variants.{Own, Refused as number�
 use Rattle.bench_parts.specs.declared.Fit.{Fit}
 use Rattle.bench_parts.specs.declared.Fit.the-variants.{Fits, Outside, NoRule}
 use Rattle.bench_parts.specs.declared.Part.{Part}
-use Rattle.bench_parts.specs.declared.Part.the-variants.{Sum, Known, Shape as a·Shape, Fit as a·Fit, Name as a·Name, OnLine as a·OnLine, Device as a·Device, Number as a·Number}
+use Rattle.bench_parts.specs.declared.Part.the-variants.{Sum, Known, Shape as a·Shape, Fit as a·Fit, Inside, Quiet, Name as a·Name, OnLine as a·OnLine, Device as a·Device, Number as a·Number}
 
 -- "`known` or `unknown`"
 abbrev pub knownTexts : Bool → List (List ℕ)
@@ -56,6 +56,15 @@ fitTexts Fits = text "0 fits" ∷ []
 fitTexts Outside = text "0 outside" ∷ []
 fitTexts NoRule = text "0 no rule" ∷ []
 
+-- "`inside` or `outside`", and "`yes` .. else `no`"
+abbrev pub insideTexts : Bool → List (List ℕ)
+insideTexts true = text "0 inside" ∷ []
+insideTexts false = text "0 outside" ∷ []
+
+abbrev pub quietTexts : Bool → List (List ℕ)
+quietTexts true = text "0 yes" ∷ []
+quietTexts false = text "0 no" ∷ []
+
 -- "`name N` or `none`"
 abbrev pub nameTexts : Name → List (List ℕ)
 nameTexts (Number n) = text "0 name " ∷ decimalOf n ∷ []
@@ -82,6 +91,8 @@ partTexts (Sum b) = text "0 sum " ∷ hexOf b ∷ []
 partTexts (Known k) = knownTexts k
 partTexts (a·Shape s) = shapeTexts s
 partTexts (a·Fit f) = fitTexts f
+partTexts (Inside b) = insideTexts b
+partTexts (Quiet b) = quietTexts b
 partTexts (a·Name n) = nameTexts n
 partTexts (a·OnLine t) = lineTexts t
 partTexts (a·Device d) = deviceTexts d

@@ -21,11 +21,11 @@ use Rattle.target.specs.declared.Numbered.the-variants.{Own, Refused as number�
 use Rattle.bench_parts.specs.declared.Fit.{Fit}
 use Rattle.bench_parts.specs.declared.Fit.the-variants.{Fits, Outside, NoRule}
 use Rattle.bench_parts.specs.declared.Part.{Part}
-use Rattle.bench_parts.specs.declared.Part.the-variants.{Sum, Known, Shape as a·Shape, Fit as a·Fit, Name as a·Name, OnLine as a·OnLine, Device as a·Device, Number as a·Number}
-use Rattle.bench_parts.specs.Parts.{knownTexts, ruleTexts, shapeTexts, fitTexts, nameTexts, lineTexts, deviceTexts, numberTexts, partTexts}
+use Rattle.bench_parts.specs.declared.Part.the-variants.{Sum, Known, Shape as a·Shape, Fit as a·Fit, Inside, Quiet, Name as a·Name, OnLine as a·OnLine, Device as a·Device, Number as a·Number}
+use Rattle.bench_parts.specs.Parts.{knownTexts, ruleTexts, shapeTexts, fitTexts, insideTexts, quietTexts, nameTexts, lineTexts, deviceTexts, numberTexts, partTexts}
 
 abbrev pub names : List ℕ
-names = text "0 sum ,0 known,0 unknown,0 unicast,0 basic group,0 basic emit,0 basic bare,0 basic timers,0 basic group_scene,0 basic channel,0 basic filter,0 basic query,0 basic gear,0 basic inhibit,0 basic scene,0 basic level,0 basic lights,0 basic address,0 basic status,0 fits,0 outside,0 no rule,0 name ,0 none,0 target ,0 device ,0 number ,0 colour"
+names = text "0 sum ,0 known,0 unknown,0 unicast,0 basic group,0 basic emit,0 basic bare,0 basic timers,0 basic group_scene,0 basic channel,0 basic filter,0 basic query,0 basic gear,0 basic inhibit,0 basic scene,0 basic level,0 basic lights,0 basic address,0 basic status,0 fits,0 outside,0 no rule,0 name ,0 none,0 target ,0 device ,0 number ,0 colour,0 inside,0 yes,0 no"
 
 abbrev pub knownKind : Bool → ℕ
 knownKind true = 0x11
@@ -59,6 +59,14 @@ fitKind Fits = 0x131
 fitKind Outside = 0x141
 fitKind NoRule = 0x151
 
+abbrev pub insideKind : Bool → ℕ
+insideKind true = 0x1C1
+insideKind false = 0x141
+
+abbrev pub quietKind : Bool → ℕ
+quietKind true = 0x1D1
+quietKind false = 0x1E1
+
 abbrev pub namePieces : Name → Pieces
 namePieces (Number n) = three 0x162 n 0 0 0 0
 namePieces Nothing = three 0x171 0 0 0 0 0
@@ -80,6 +88,8 @@ partPieces (Sum b) = byted 0x03 0 0 0 0 0 b
 partPieces (Known k) = three (knownKind k) 0 0 0 0 0
 partPieces (a·Shape s) = three (shapeKind s) 0 0 0 0 0
 partPieces (a·Fit f) = three (fitKind f) 0 0 0 0 0
+partPieces (Inside b) = three (insideKind b) 0 0 0 0 0
+partPieces (Quiet b) = three (quietKind b) 0 0 0 0 0
 partPieces (a·Name n) = namePieces n
 partPieces (a·OnLine t) = linePieces t
 partPieces (a·Device d) = devicePieces d
@@ -121,6 +131,16 @@ fit-said Fits = refl
 fit-said Outside = refl
 fit-said NoRule = refl
 
+inside-said : (b : Bool) → piecesTexts names (three (insideKind b) 0 0 0 0 0) ≡ insideTexts b
+unfolding before wordIn
+inside-said true = refl
+inside-said false = refl
+
+quiet-said : (b : Bool) → piecesTexts names (three (quietKind b) 0 0 0 0 0) ≡ quietTexts b
+unfolding before wordIn
+quiet-said true = refl
+quiet-said false = refl
+
 name-said : (n : Name) → piecesTexts names (namePieces n) ≡ nameTexts n
 unfolding before wordIn
 name-said (Number n) = refl
@@ -147,6 +167,8 @@ part-said (Sum b) = refl
 part-said (Known k) = known-said k
 part-said (a·Shape s) = shape-said s
 part-said (a·Fit f) = fit-said f
+part-said (Inside b) = inside-said b
+part-said (Quiet b) = quiet-said b
 part-said (a·Name n) = name-said n
 part-said (a·OnLine t) = line-said t
 part-said (a·Device d) = device-said d

@@ -1,9 +1,9 @@
-// Parts of datagrams as the bench's answers. docs/BENCH.md, "Parts of datagrams". It leans on crate bench_say, and on crates
+// Parts of datagrams, and whether a run passes, as the bench's answers. docs/BENCH.md, "Parts of datagrams" and "Lines". It leans on crate bench_say, and on crates
 // command, error and target for what is said.
 ghost use mathlib.Core.Path.{_≡_};
 ghost use Rattle.lent.specs.All.{PutsAll};
 ghost use Rattle.bench_parts.specs.Parts.{partTexts};
-ghost use Rattle.bench_parts.specs.Pieces.{knownKind, ruleKind, shapeKind, fitKind, namePieces, linePieces, devicePieces, numberPieces, partPieces};
+ghost use Rattle.bench_parts.specs.Pieces.{knownKind, ruleKind, shapeKind, fitKind, insideKind, quietKind, namePieces, linePieces, devicePieces, numberPieces, partPieces};
 use bench_say::Pieces;
 use command::Rule;
 use command::Shape;
@@ -25,6 +25,8 @@ pub enum Part {
     Known(bool),
     Shape(Shape),
     Fit(Fit),
+    Inside(bool),
+    Quiet(bool),
     Name(Name),
     OnLine(OnLine),
     Device(Addressed),
@@ -84,6 +86,20 @@ fn fits(f: Fit) -> usize
     }
 }
 
+// Whether a command is inside the quiet profile.
+fn inside(yes: bool) -> usize
+    ensures { λ r. ⌜ r ≡ insideKind yes ⌝ }
+{
+    if yes { 0x1C1 } else { 0x141 }
+}
+
+// Whether a run passes.
+fn quiet(yes: bool) -> usize
+    ensures { λ r. ⌜ r ≡ quietKind yes ⌝ }
+{
+    if yes { 0x1D1 } else { 0x1E1 }
+}
+
 // The number of an error code's name.
 fn name(n: Name) -> Pieces
     ensures { λ r. ⌜ r ≡ namePieces n ⌝ }
@@ -132,6 +148,8 @@ fn answer(p: Part) -> Pieces
         Part::Known(yes) => Pieces(known(yes), 0, 0, 0, 0, 0, 0),
         Part::Shape(s) => Pieces(shape(s), 0, 0, 0, 0, 0, 0),
         Part::Fit(f) => Pieces(fits(f), 0, 0, 0, 0, 0, 0),
+        Part::Inside(yes) => Pieces(inside(yes), 0, 0, 0, 0, 0, 0),
+        Part::Quiet(yes) => Pieces(quiet(yes), 0, 0, 0, 0, 0, 0),
         Part::Name(n) => name(n),
         Part::OnLine(t) => on_line(t),
         Part::Device(d) => device(d),
@@ -150,7 +168,7 @@ pub fn say(out: &mut [u8], at: usize, p: Part) -> usize
 0 basic timers,0 basic group_scene,0 basic channel,0 basic filter,0 basic query,\
 0 basic gear,0 basic inhibit,0 basic scene,0 basic level,0 basic lights,0 basic address,\
 0 basic status,0 fits,0 outside,0 no rule,0 name ,0 none,0 target ,0 device ,0 number ,\
-0 colour",
+0 colour,0 inside,0 yes,0 no",
         answer(p),
     )
 }

@@ -1,4 +1,4 @@
--- A reader of a line as another language hands it in and is handed it back, and what its calls give.
+-- A reader of a line as another language hands it in and is handed it back, and what its calls give; and what a finished run gives.
 use Prim.Native.Nat.{ℕ}
 use mathlib.Core.List.{List}
 use lib.Dec.{eqb}
@@ -12,9 +12,11 @@ use Rattle.reader.specs.declared.Given.{Given}
 use Rattle.reader.specs.declared.Got.{Got}
 use Rattle.reader.specs.declared.Got.the-variants.{Nothing, Item}
 use Rattle.reader.specs.Reader.{heldOf, givenOf, closedOf}
+use Rattle.quiet_run.specs.Quiet.{First, none, loud}
 use Rattle.c_values.specs.declared.WickReader.{WickReader}
 use Rattle.c_values.specs.declared.WickGiven.{WickGiven}
 use Rattle.c_values.specs.declared.WickItem.{WickItem}
+use Rattle.c_values.specs.declared.WickQuiet.{WickQuiet}
 
 -- 0 is the request line, any other number the reply line
 abbrev pub lineBy : ℕ → Line
@@ -57,3 +59,8 @@ closedOut on h = givenOut (closedOf (close (settle on) (heldOf on h)))
 abbrev pub positionOut : Position → WickItem
 positionOut nothing = record { «has_item» = 0; item = 0; count = 0 }
 positionOut (stands k m) = record { «has_item» = 1; item = k; count = m }
+
+-- a finished run passes, or the first item that is not quiet
+abbrev pub quietOut : First → WickQuiet
+quietOut none = record { passes = 1; item = 0; place = 0; count = 0 }
+quietOut (loud at k m) = record { passes = 0; item = k; place = at; count = m }

@@ -1,5 +1,5 @@
 // Reply data, targets, books and readers of lines as programs in C have them: the structs that crate wickanchor takes and hands over, laid
-// out as C does, and what turns the answers of crates maps, filters, target, book, line and reader into them, and books and readers back.
+// out as C does, and what turns the answers of crates maps, filters, target, book, line, reader and quiet_run into them, and books and readers back.
 // A refusal is its number by document 01, 0 stands for none, and every other field of a refused call is 0, but for a book. Each contract is
 // an equation over what the answer says.
 ghost use mathlib.Core.Path.{_≡_};
@@ -8,10 +8,11 @@ ghost use Rattle.maps.specs.Said.{said16, said32, said64, saidLowest};
 ghost use Rattle.filters.specs.Filters.{saidFilters, saidEntry};
 ghost use Rattle.book.specs.Book.{saidGiven, saidFreed};
 ghost use Rattle.line.specs.Said.{saidAt};
+ghost use Rattle.quiet_run.specs.Scan.{saidFirst};
 ghost use Rattle.c_values.specs.Numbers.{numberOut, lineOut, deviceOut};
 ghost use Rattle.c_values.specs.Filters.{filtersOut, filterOut};
 ghost use Rattle.c_values.specs.Books.{bookIn, bookOut, bookedBy};
-ghost use Rattle.c_values.specs.Lines.{lineBy, readerIn, readerOut, givenOut, positionOut};
+ghost use Rattle.c_values.specs.Lines.{lineBy, readerIn, readerOut, givenOut, positionOut, quietOut};
 use book::Asked;
 use book::Book;
 use book::Freed;
@@ -94,6 +95,16 @@ pub struct WickGiven {
 pub struct WickItem {
     pub has_item: u8,
     pub item: u8,
+    pub count: usize,
+}
+
+// The quiet profile applied to a finished run: whether it passes, and of the first item for which it does not the number, the place where it
+// begins and how many bytes it has.
+#[repr(C)]
+pub struct WickQuiet {
+    pub passes: u8,
+    pub item: u8,
+    pub place: usize,
     pub count: usize,
 }
 
@@ -364,6 +375,26 @@ pub fn item_out(r: At) -> WickItem
         At::Nothing => WickItem {
             has_item: 0,
             item: 0,
+            count: 0,
+        },
+    }
+}
+
+// The first item of a run that is not quiet.
+pub fn quiet_out(r: quiet_run::Found) -> WickQuiet
+    ensures { λ w. ⌜ w ≡ quietOut (saidFirst r) ⌝ }
+{
+    match r {
+        quiet_run::Found::Loud(at, k, m) => WickQuiet {
+            passes: 0,
+            item: k,
+            place: at,
+            count: m,
+        },
+        quiet_run::Found::None => WickQuiet {
+            passes: 1,
+            item: 0,
+            place: 0,
             count: 0,
         },
     }

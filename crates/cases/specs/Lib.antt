@@ -4,3 +4,4 @@ pub mod Scenes
 pub mod Events
 pub mod Colours
 pub mod Retired
+pub mod Quiet

@@ -7,6 +7,7 @@ use Rattle.refusal.specs.Answer.{refused, full}
 use Rattle.sum.specs.Sum.{sumFrom}
 use Rattle.order.specs.Order.{numberBy}
 use Rattle.command.specs.Command.{shapeOf, isRetired}
+use Rattle.profile.specs.declared.Profile.the-variants.{Open}
 use Rattle.ranges.specs.Arguments.{fits}
 use Rattle.meaning.specs.Meaning.{bare, meaningOf}
 use Rattle.request.specs.Layout.{basic}
@@ -55,9 +56,9 @@ unfolding
 retired-told =
     (refl, (refl, (refl, (refl, (refl, (refl, (refl, tt)))))))
 
--- in writing: 17 for 0A, whatever its arguments are; its neighbours are written; 3 comes first
-pub retired-written : (writerOf (basic 0 0x0A 0 0 0 0) ≡ refused 17) × (writerOf (basic 0 0x0A 9 9 9 9) ≡ refused 17)
-    × (writerOf (basic 0 0x09 0 0 0 0) ≡ full groups) × (writerOf (basic 0 0x0B 0 0 0 0) ≡ full profiles)
-    × (writerOf (basic 0 0x09 9 9 9 9) ≡ refused 7) × (writerOf (basic 0 0x0D 9 9 9 9) ≡ refused 3)
+-- in writing, where no profile is chosen: 17 for 0A, whatever its arguments are; its neighbours are written; 3 comes first
+pub retired-written : (writerOf Open (basic 0 0x0A 0 0 0 0) ≡ refused 17) × (writerOf Open (basic 0 0x0A 9 9 9 9) ≡ refused 17)
+    × (writerOf Open (basic 0 0x09 0 0 0 0) ≡ full groups) × (writerOf Open (basic 0 0x0B 0 0 0 0) ≡ full profiles)
+    × (writerOf Open (basic 0 0x09 9 9 9 9) ≡ refused 7) × (writerOf Open (basic 0 0x0D 9 9 9 9) ≡ refused 3)
 unfolding sumFrom shapeOf isRetired fits
 retired-written = (refl, refl, refl, refl, refl, refl)

@@ -1,6 +1,6 @@
 -- How long a line of text can be, and what is left where one has room and nothing is poured.
-use Prim.Native.Nat.{ℕ, suc, _-_, _≤_, _<_}
-use mathlib.Core.Path.{_≡_, refl, sym, ap, _∙_}
+use Prim.Native.Nat.{ℕ, suc, _≤_, _<_}
+use mathlib.Core.Path.{_≡_, refl, sym, _∙_}
 use mathlib.Core.Bool.{Bool, true, false}
 use mathlib.Core.List.{List, [], _∷_}
 use lib.ListN.{length, take, length-take}
@@ -47,7 +47,7 @@ occurs-digit on k e = go on (ltb k 10) refl e
         rw (ne-eqb k 0 (λ j. omega arith), ne-eqb k 2 (λ j. omega arith), ne-eqb k 4 (λ j. omega arith), ne-eqb k 6 (λ j. omega arith)) in
         clash (let z : false ≡ true = sym none ∙ e in cc)
 
-number-digit : (on : Line) (s : List ℕ) → itemNumber (settle on s) < 10
+pub number-digit : (on : Line) (s : List ℕ) → itemNumber (settle on s) < 10
 number-digit on s = go (settle on s) (numbers on s)
   where
     go : (x : Settling) → occursAt on x ≡ true → itemNumber x < 10

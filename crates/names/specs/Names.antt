@@ -28,6 +28,7 @@ table =
     ∷ row 0x0_0A "NOT_AWAITED"
     ∷ row 0x0_0B "BAD_DATA_SIZE"
     ∷ row 0x0_0C "NONE_THERE"
+    ∷ row 0x0_0D "OUTSIDE_PROFILE"
     ∷ row 0x0_0E "UNKNOWN_VERSION"
     ∷ row 0x0_0F "BAD_RECORD"
     ∷ row 0x0_10 "EARLIER_TIME"

@@ -75,11 +75,11 @@ unfolding before
 names-proper = refl
 
 module _ (kind number k : ℕ) (e : k ≡ placeIn (kind * 256 + number) keys) where
-  pub name-found : k < 78 → nameOf kind number ≡ full (wordIn 32 k names)
+  pub name-found : k < 79 → nameOf kind number ≡ full (wordIn 32 k names)
   unfolding nameOf
   name-found h = name-there (kind * 256 + number) table (rw (← e) h) ∙ rw (← e) (ap full (sym (word-joined 32 (namesOf table) names-proper k)))
 
-  pub name-none : 78 ≤ k → nameOf kind number ≡ refused 7
+  pub name-none : 79 ≤ k → nameOf kind number ≡ refused 7
   unfolding nameOf
   name-none h = name-nowhere (kind * 256 + number) table (rw (← e) h)
 
@@ -101,5 +101,5 @@ module _ (f out out′ : List ℕ) (n : ℕ) (s : 0 < length f) (w : Puts f out 
           let r : leb (length f) (length out) ≡ false = lt-leb (length f) (length out) (omega (arith, leb-false (0 + length f) (length out) e)) in
           record { says = rw r; leaves = rw r q }
 
-pub name-some : (k : ℕ) → k < 78 → 0 < length (wordIn 32 k names)
+pub name-some : (k : ℕ) → k < 79 → 0 < length (wordIn 32 k names)
 name-some k h = rw (word-joined 32 (namesOf table) names-proper k) (word-some 32 (namesOf table) names-proper k h)

@@ -18,7 +18,7 @@ pub const ERROR: u8 = 3;
 pub const EVENT: u8 = 4;
 
 // A row for each name: its kind and its number, as digits of one hexadecimal number.
-const KEYS: [u16; 78] = [
+const KEYS: [u16; 79] = [
     // Refusals
     0x0_00, // OK
     0x0_01, // TOO_SHORT
@@ -33,6 +33,7 @@ const KEYS: [u16; 78] = [
     0x0_0A, // NOT_AWAITED
     0x0_0B, // BAD_DATA_SIZE
     0x0_0C, // NONE_THERE
+    0x0_0D, // OUTSIDE_PROFILE
     0x0_0E, // UNKNOWN_VERSION
     0x0_0F, // BAD_RECORD
     0x0_10, // EARLIER_TIME
@@ -109,7 +110,7 @@ fn place(key: u16) -> usize
     ensures { λ r. ⌜ r ≡ placeIn key keys ⌝ }
 {
     let mut k: usize = 0;
-    while k < 78 {
+    while k < 79 {
         if KEYS[k] == key {
             return k;
         }
@@ -124,15 +125,15 @@ pub fn name(kind: u8, number: u8, out: &mut [u8]) -> Wrote
     ensures { λ r. ⌜ Written (nameOf kind number) (now (out .entry)) r (now (out .exit)) ⌝ }
 {
     let k = place((kind as u16) * 256 + (number as u16));
-    if 78 <= k {
+    if 79 <= k {
         return Wrote::Refused(7);
     }
     let n = words::put(
         out,
         0,
         b"OK TOO_SHORT BAD_LEAD UNKNOWN_COMMAND BAD_LENGTH_BYTE BAD_LENGTH BAD_SUM BAD_ARGUMENT NO_ROOM \
-NO_NUMBER_FREE NOT_AWAITED BAD_DATA_SIZE NONE_THERE UNKNOWN_VERSION BAD_RECORD EARLIER_TIME \
-RETIRED NOT_RISING QUERY_GROUP_LABEL ENABLE_TPI_EVENT_EMIT QUERY_GROUP_NUMBERS QUERY_SCENE_NUMBERS \
+NO_NUMBER_FREE NOT_AWAITED BAD_DATA_SIZE NONE_THERE OUTSIDE_PROFILE UNKNOWN_VERSION BAD_RECORD \
+EARLIER_TIME RETIRED NOT_RISING QUERY_GROUP_LABEL ENABLE_TPI_EVENT_EMIT QUERY_GROUP_NUMBERS QUERY_SCENE_NUMBERS \
 QUERY_PROFILE_NUMBERS QUERY_OCCUPANCY_INSTANCE_TIMERS DALI_COLOUR QUERY_SCENE_NUMBERS_FOR_GROUP \
 QUERY_SCENE_LABEL_FOR_GROUP QUERY_CONTROLLER_VERSION_NUMBER QUERY_CONTROL_GEAR_DALI_ADDRESSES \
 QUERY_DMX_DEVICE_LABEL_BY_NUMBER DALI_ADD_TPI_EVENT_FILTER QUERY_DALI_TPI_EVENT_FILTERS \

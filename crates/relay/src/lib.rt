@@ -1,9 +1,10 @@
 // Datagrams handed on: each function reads a datagram of its family and writes what was read into a lent buffer. An accepted one comes back
 // byte for byte, or 8 where the buffer is too short; else the answer is the reader's refusal. A request that is marked as retired is
-// written no more: 17. It leans on crates request, reply and event. Demand 2: "writing a frame that was read gives its bytes back, where the
+// written no more: 17. No profile is chosen. It leans on crates request, reply and event. Demand 2: "writing a frame that was read gives its bytes back, where the
 // buffer is long enough"; document 02, W-210: "Demand 2's writing half leaves 0A out from then on."
 ghost use Rattle.frame.specs.Written.{Written};
 ghost use Rattle.frame.specs.Relay.{relayed};
+ghost use Rattle.profile.specs.declared.Profile.the-variants.{Open};
 ghost use Rattle.request.specs.Said.{fieldsOf, saidRequest};
 ghost use Rattle.request.specs.Reading.{readRequest};
 ghost use Rattle.request.specs.Writing.{writerOf, handedOn};
@@ -12,26 +13,33 @@ ghost use Rattle.event.specs.Layout.{widthOf};
 ghost use Rattle.event.specs.Reading.{readEvent};
 use event::Layout;
 use frame::Wrote;
+use profile::Profile;
 use request::Contents;
 use request::Request;
 
 // Writes a request that was read.
 fn request_again(r: Request, out: &mut [u8]) -> Wrote
-    ensures { λ w. ⌜ Written (writerOf (fieldsOf (saidRequest r))) (now (out .entry)) w (now (out .exit)) ⌝ }
+    ensures { λ w. ⌜ Written (writerOf Open (fieldsOf (saidRequest r))) (now (out .entry)) w (now (out .exit)) ⌝ }
 {
     let contents = r.contents;
     match contents {
         Contents::Basic {
             arguments,
             meaning: _,
-        } => writers::basic(r.sequence, r.command, arguments, out),
-        Contents::Unicast { port, address } => writers::unicast(r.sequence, port, address, out),
+        } => writers::basic(Profile::Open, r.sequence, r.command, arguments, out),
+        Contents::Unicast { port, address } => writers::unicast(
+            Profile::Open,
+            r.sequence,
+            port,
+            address,
+            out,
+        ),
         Contents::Colour {
             target,
             lights: _,
             level,
             colour,
-        } => writers::colour(r.sequence, target, level, colour, out),
+        } => writers::colour(Profile::Open, r.sequence, target, level, colour, out),
     }
 }
 

@@ -1,4 +1,5 @@
--- Demand 2 for requests (crate frame says what it is).
+-- Demand 2 for requests (crate frame says what it is), over the profile. Document 02, W-203: "demand 2's writing half holds where the profile is
+-- not chosen, and under it for the commands inside".
 use Prim.Native.Nat.{ℕ, _-_, _/_, _%_, _<_}
 use mathlib.Core.Path.{_≡_, refl, sym, ap, _∙_}
 use mathlib.Core.Bool.{Bool, true, false, not}
@@ -26,9 +27,12 @@ use Rattle.command.specs.Command.{shapeOf, numbersIn, isKnown, isRetired}
 use Rattle.command.specs.Known.{unicast-only, colour-only, colour-shape, basic-known, unicast-known, colour-known, may-write-current, current-may-write}
 use Rattle.command.specs.Colours.{widthsOf, dataBytes, isType}
 use Rattle.command.specs.Listed.{type-bytes}
-use Rattle.command.specs.Length.{colourBytes}
+use Rattle.command.specs.Length.{colourBytes, unicastCommand, colourCommand}
 use Rattle.target.specs.declared.LineTarget.{LineTarget}
 use Rattle.target.specs.Target.{isLighting}
+use Rattle.profile.specs.declared.Profile.{Profile}
+use Rattle.profile.specs.declared.Profile.the-variants.{Open}
+use Rattle.profile.specs.Profile.{allows}
 use Rattle.colour.specs.Colour.{Hue, hue, typeOf, fitting, isColour, dataIn, hueIn, saidColour}
 use Rattle.colour.specs.declared.Colour as Colour·enum
 use Rattle.colour.specs.Laws.{laid-bytes, data-length, hue-back, data-back, hue-fits, Sized, said-colour}
@@ -42,37 +46,6 @@ use Rattle.request.specs.Coloured.{part-length, colour-accepts}
 use Rattle.request.specs.Writing.{basicOf, colourFrame, writerOf, frameOf, handedOn}
 use Rattle.request.specs.Retired.{heard-fields, retired-read, retired-refused, written-current}
 
--- the datagram is accepted, and gives these fields
-abbrev Reads : List ℕ → Fields → Type 0
-Reads d f = family.Reads InRange layout readRequest (λ r x. fieldsOf r) Writable frameOf d f
-
--- each layout reads as its fields
-basic-reads : (rule : Rule) (s k a b c d : ℕ) → shapeOf k ≡ Basic rule → fits rule a b c d ≡ true
-    → Reads (layout (basic s k a b c d)) (basic s k a b c d)
-basic-reads rule s k a b c d h f =
-    let x : List ℕ = layout (basic s k a b c d) in
-    record {
-      reading = basicHeard rule s k a b c d;
-      accepted =
-          sym
-          (shape-read x (Basic rule) (full (basicHeard rule s k a b c d)) (omega arith) refl (sym h)
-          (basic-accepts rule x (isRetired k) (meaningOf rule a b c d) refl refl (sealed-sum (head (basic s k a b c d))) f refl));
-      fields = refl;
-    }
-
-unicast-reads : (s port i j k l : ℕ) → port < 65536 → Reads (layout (unicast s port i j k l)) (unicast s port i j k l)
-unfolding shapeOf numbersIn
-unicast-reads s port i j k l p =
-    let x : List ℕ = layout (unicast s port i j k l) in
-    record {
-      reading = unicastHeard s 0x40 port i j k l;
-      accepted =
-          sym
-          (shape-read x Unicast (full (unicastHeard s 0x40 port i j k l)) (omega arith) refl refl
-          (unicast-accepts x (isRetired 0x40) port refl refl refl (sealed-sum (head (unicast s port i j k l))) (sym (number-of-bytes 2 port p))));
-      fields = refl;
-    }
-
 -- the frame of a colour request has the bytes of its type, and its colour data is that of its colour
 colour-length : (s a l k : ℕ) (vs : List ℕ) → fitting (widthsOf k) vs ≡ true → length (layout (colour s a l (hue k vs))) ≡ colourBytes k
 colour-length s a l k vs f = simp length-append (omega (arith, data-length k vs f))
@@ -84,62 +57,104 @@ colour-part s a l k vs f =
     let n : length x - 1 - 6 ≡ length (dataIn (hue k vs)) = omega (arith, colour-length s a l k vs f, data-length k vs f) in
     rw n (take-append-seam (dataIn (hue k vs)) (sumOf (head (colour s a l (hue k vs))) ∷ []))
 
--- ONCE OVER THE COLOUR TYPES
-colour-reads : (s a l : ℕ) (h : Hue) → isLighting a ≡ true → isColour h ≡ true → Reads (layout (colour s a l h)) (colour s a l h)
-colour-reads s a l (hue k vs) g c =
-    let x : List ℕ = layout (colour s a l (hue k vs)) in
-    let t : isType k ≡ true = both-left (isType k) (fitting (widthsOf k) vs) c in
-    let f : fitting (widthsOf k) vs ≡ true = both-right (isType k) (fitting (widthsOf k) vs) c in
-    let n : length x ≡ colourBytes k = colour-length s a l k vs f in
-    let u = type-bytes k t in
-    record {
-      reading = colourHeard s 0x0E a l (hue k vs);
-      accepted =
-          sym
-          (shape-read x Colour (full (colourHeard s 0x0E a l (hue k vs))) (omega (arith, n, u .1)) refl (sym colour-shape)
-          (colour-accepts x (hue k vs) t n (sealed-sum (head (colour s a l (hue k vs)))) g
-          (ap (hueIn k) (colour-part s a l k vs f) ∙ hue-back k vs f)));
-      fields = refl;
-    }
+module _ (p : Profile) where
+  -- the datagram is accepted, and gives these fields
+  abbrev Reads : List ℕ → Fields → Type 0
+  Reads d f = family.Reads InRange layout readRequest (λ r x. fieldsOf r) (Writable p) (frameOf p) d f
 
--- what was written is read as its fields
-read-written : (f : Fields) (x : List ℕ) → frameOf f ≡ full x → Reads x f
-read-written (basic s k a b c d) x e = go (shapeOf k) refl e
-  where
-    go : (h : Shape) → shapeOf k ≡ h → basicOf h s k (record { a = a; b = b; c = c; d = d }) ≡ full x → Reads x (basic s k a b c d)
-    go Unknown h e = clash (cc)
-    go Unicast h e = clash (cc)
-    go Colour h e = clash (cc)
-    go (Basic rule) h e =
-        demand-elim (not (isRetired k)) 17
-        (λ r. demand-elim (fits rule a b c d) 7
-        (λ t q.
-        let o : layout (basic s k a b c d) ≡ x = full-one q in
-        rw o at (basic-reads rule s k a b c d h t)))
-        e
-read-written (unicast s port i j k l) x e =
-    demand-elim (ltb port 65536) 7
-    (λ t q.
-    let o : layout (unicast s port i j k l) ≡ x = full-one q in
-    rw o at (unicast-reads s port i j k l (ltb-true port 65536 t)))
-    e
-read-written (colour s a l (hue k vs)) x e =
-    demand-elim (isType k) 4
-    (λ t. demand-elim (isColour (hue k vs)) 7
-    (λ c. demand-elim (isLighting a) 7
-    (λ g q.
-    let o : layout (colour s a l (hue k vs)) ≡ x = full-one q in
-    rw o at (colour-reads s a l (hue k vs) g c))))
-    e
+  -- each layout reads as its fields
+  basic-reads : (rule : Rule) (s k a b c d : ℕ) → shapeOf k ≡ Basic rule → fits rule a b c d ≡ true
+      → Reads (layout (basic s k a b c d)) (basic s k a b c d)
+  basic-reads rule s k a b c d h f =
+      let x : List ℕ = layout (basic s k a b c d) in
+      record {
+        reading = basicHeard rule s k a b c d;
+        accepted =
+            sym
+            (shape-read x (Basic rule) (full (basicHeard rule s k a b c d)) (omega arith) refl (sym h)
+            (basic-accepts rule x (isRetired k) (meaningOf rule a b c d) refl refl (sealed-sum (head (basic s k a b c d))) f refl));
+        fields = refl;
+      }
 
--- what may be written is in range, and its frame is its layout
-may-written : (f : Fields) → Writable f → frameOf f ≡ full (layout f)
-may-written f w = go f (w .0) (may-write-current (commandIn f) (w .1))
-  where
-    go : (f : Fields) → InRange f → isRetired (commandIn f) ≡ false → frameOf f ≡ full (layout f)
-    go (basic s k a b c d) (basic-fits rule h t z) m = rw (h, m, t)
-    go (unicast s port i j k l) (unicast-fits p z) m = rw (lt-ltb port 65536 p)
-    go (colour s a l (hue k vs)) (colour-fits g c z) m = rw (both-left (isType k) (fitting (widthsOf k) vs) c, both-right (isType k) (fitting (widthsOf k) vs) c, g)
+  unicast-reads : (s port i j k l : ℕ) → port < 65536 → Reads (layout (unicast s port i j k l)) (unicast s port i j k l)
+  unfolding shapeOf numbersIn
+  unicast-reads s port i j k l n =
+      let x : List ℕ = layout (unicast s port i j k l) in
+      record {
+        reading = unicastHeard s 0x40 port i j k l;
+        accepted =
+            sym
+            (shape-read x Unicast (full (unicastHeard s 0x40 port i j k l)) (omega arith) refl refl
+            (unicast-accepts x (isRetired 0x40) port refl refl refl (sealed-sum (head (unicast s port i j k l))) (sym (number-of-bytes 2 port n))));
+        fields = refl;
+      }
+
+  -- ONCE OVER THE COLOUR TYPES
+  colour-reads : (s a l : ℕ) (h : Hue) → isLighting a ≡ true → isColour h ≡ true → Reads (layout (colour s a l h)) (colour s a l h)
+  colour-reads s a l (hue k vs) g c =
+      let x : List ℕ = layout (colour s a l (hue k vs)) in
+      let t : isType k ≡ true = both-left (isType k) (fitting (widthsOf k) vs) c in
+      let f : fitting (widthsOf k) vs ≡ true = both-right (isType k) (fitting (widthsOf k) vs) c in
+      let n : length x ≡ colourBytes k = colour-length s a l k vs f in
+      let u = type-bytes k t in
+      record {
+        reading = colourHeard s 0x0E a l (hue k vs);
+        accepted =
+            sym
+            (shape-read x Colour (full (colourHeard s 0x0E a l (hue k vs))) (omega (arith, n, u .1)) refl (sym colour-shape)
+            (colour-accepts x (hue k vs) t n (sealed-sum (head (colour s a l (hue k vs)))) g
+            (ap (hueIn k) (colour-part s a l k vs f) ∙ hue-back k vs f)));
+        fields = refl;
+      }
+
+  -- what was written is read as its fields
+  read-written : (f : Fields) (x : List ℕ) → frameOf p f ≡ full x → Reads x f
+  read-written (basic s k a b c d) x e = go (shapeOf k) refl e
+    where
+      go : (h : Shape) → shapeOf k ≡ h → basicOf p h s k (record { a = a; b = b; c = c; d = d }) ≡ full x → Reads x (basic s k a b c d)
+      go Unknown h e = clash (cc)
+      go Unicast h e = clash (cc)
+      go Colour h e = clash (cc)
+      go (Basic rule) h e =
+          demand-elim (not (isRetired k)) 17
+          (λ r. demand-elim (fits rule a b c d) 7
+          (λ t. demand-elim (allows p k) 13
+          (λ u q.
+          let o : layout (basic s k a b c d) ≡ x = full-one q in
+          rw o at (basic-reads rule s k a b c d h t))))
+          e
+  read-written (unicast s port i j k l) x e =
+      demand-elim (ltb port 65536) 7
+      (λ t. demand-elim (allows p unicastCommand) 13
+      (λ u q.
+      let o : layout (unicast s port i j k l) ≡ x = full-one q in
+      rw o at (unicast-reads s port i j k l (ltb-true port 65536 t))))
+      e
+  read-written (colour s a l (hue k vs)) x e =
+      demand-elim (isType k) 4
+      (λ t. demand-elim (isColour (hue k vs)) 7
+      (λ c. demand-elim (isLighting a) 7
+      (λ g. demand-elim (allows p colourCommand) 13
+      (λ u q.
+      let o : layout (colour s a l (hue k vs)) ≡ x = full-one q in
+      rw o at (colour-reads s a l (hue k vs) g c)))))
+      e
+
+  -- what may be written is in range, and its frame is its layout
+  may-written : (f : Fields) → Writable p f → frameOf p f ≡ full (layout f)
+  may-written f w = go f (w .0) (may-write-current (commandIn f) (w .1)) (w .2)
+    where
+      go : (f : Fields) → InRange f → isRetired (commandIn f) ≡ false → allows p (commandIn f) ≡ true → frameOf p f ≡ full (layout f)
+      go (basic s k a b c d) (basic-fits rule h t z) m u = rw (h, m, t, u)
+      go (unicast s port i j k l) (unicast-fits n z) m u = rw (lt-ltb port 65536 n, u)
+      go (colour s a l (hue k vs)) (colour-fits g c z) m u =
+          rw (both-left (isType k) (fitting (widthsOf k) vs) c, both-right (isType k) (fitting (widthsOf k) vs) c, g, u)
+
+  -- each frame is accepted
+  frame-accepted : (f : Fields) → InRange f → Reads (layout f) f
+  frame-accepted (basic s k a b c d) (basic-fits rule h t z) = basic-reads rule s k a b c d h t
+  frame-accepted (unicast s port i j k l) (unicast-fits n z) = unicast-reads s port i j k l n
+  frame-accepted (colour s a l h) (colour-fits g c z) = colour-reads s a l h g c
 
 -- what a reading tells of its datagram
 basic-frame : (d : List ℕ) (rule : Rule) (r : Heard) → Bytes d → byte 0 d ≡ 0x04 → shapeOf (byte 2 d) ≡ Basic rule
@@ -250,43 +265,39 @@ head-bytes (colour-fits {s} {a} {l} {h} g c b) = colour-head s a l h c b
 frame-bytes : (f : Fields) → InRange f → Bytes (layout f)
 frame-bytes f i = sealed-bytes (head-bytes i)
 
--- whose exclusive-or is 0, and is accepted
+-- whose exclusive-or is 0
 frame-sum : (f : Fields) → InRange f → sumOf (layout f) ≡ 0
 frame-sum f i = sealed-sum (head f)
 
-frame-accepted : (f : Fields) → InRange f → Reads (layout f) f
-frame-accepted (basic s k a b c d) (basic-fits rule h t z) = basic-reads rule s k a b c d h t
-frame-accepted (unicast s port i j k l) (unicast-fits p z) = unicast-reads s port i j k l p
-frame-accepted (colour s a l h) (colour-fits g c z) = colour-reads s a l h g c
-
--- DEMAND 2 FOR REQUESTS
-pub requests : Demand2 InRange layout readRequest (λ r d. fieldsOf r) Writable frameOf
-requests =
-    demand2 InRange layout readRequest (λ r d. fieldsOf r) Writable frameOf
-    accepted-frame frame-bytes frame-sum frame-accepted (λ f w. w .0) may-written read-written
+-- DEMAND 2 FOR REQUESTS, ONCE OVER THE PROFILE
+pub requests : (p : Profile) → Demand2 InRange layout readRequest (λ r d. fieldsOf r) (Writable p) (frameOf p)
+requests p =
+    demand2 InRange layout readRequest (λ r d. fieldsOf r) (Writable p) (frameOf p)
+    accepted-frame frame-bytes frame-sum (frame-accepted p) (λ f w. w .0) (may-written p) (read-written p)
 
 -- so what is written is read, and is not marked
-pub written-unmarked : (f : Fields) (x : List ℕ) → frameOf f ≡ full x → (r : Heard) × (readRequest x ≡ full r) × (markOf r ≡ false)
-written-unmarked f x e =
-    let w = requests .read-written f x e in
+pub written-unmarked : (p : Profile) (f : Fields) (x : List ℕ) → frameOf p f ≡ full x → (r : Heard) × (readRequest x ≡ full r) × (markOf r ≡ false)
+written-unmarked p f x e =
+    let w = requests p .read-written f x e in
     let r = w .reading in
     let c : commandIn f ≡ commandOf r = ap commandIn (sym (w .fields)) ∙ heard-fields x r (w .accepted) in
-    (r, w .accepted, retired-read x r (w .accepted) ∙ ap isRetired (sym c) ∙ written-current f x e)
+    (r, w .accepted, retired-read x r (w .accepted) ∙ ap isRetired (sym c) ∙ written-current p f x e)
 
--- what is in range has a known command, so it may be written unless that is retired
+-- what is in range has a known command, so it may be written unless that is retired or the profile does not allow it
 in-range-known : (f : Fields) → InRange f → isKnown (commandIn f) ≡ true
 in-range-known (basic s k a b c d) (basic-fits rule h t z) = basic-known k rule h
-in-range-known (unicast s port i j k l) (unicast-fits p z) = unicast-known
+in-range-known (unicast s port i j k l) (unicast-fits n z) = unicast-known
 in-range-known (colour s a l h) (colour-fits g c z) = colour-known
 
-pub current-writable : (f : Fields) → InRange f → isRetired (commandIn f) ≡ false → Writable f
-current-writable f i m = (i, current-may-write (commandIn f) (in-range-known f i) m)
+pub current-writable : (p : Profile) (f : Fields) → InRange f → isRetired (commandIn f) ≡ false → allows p (commandIn f) ≡ true → Writable p f
+current-writable p f i m u = (i, current-may-write (commandIn f) (in-range-known f i) m, u)
 
--- so a relay hands on what it accepts, unless it is marked: the writer's frame for what was read is the datagram itself, or 17
-pub relay-frame : (d : List ℕ) (r : Heard) → Bytes d → readRequest d ≡ full r → writerOf (fieldsOf r) ≡ handedOn (full r) d
+-- so a relay, which chooses no profile, hands on what it accepts, unless it is marked: the writer's frame for what was read is the datagram
+-- itself, or 17
+pub relay-frame : (d : List ℕ) (r : Heard) → Bytes d → readRequest d ≡ full r → writerOf Open (fieldsOf r) ≡ handedOn (full r) d
 relay-frame d r bs e = go (markOf r) refl
   where
-    asked : (f : Fields) → frameOf f ≡ full d → writerOf f ≡ full d
+    asked : (f : Fields) → frameOf Open f ≡ full d → writerOf Open f ≡ full d
     asked (basic s k a b c d) q = q
     asked (unicast s port i j k l) q = demand-elim (ltb port 65536) 7 (λ t q. q) q
     asked (colour s a l h) q = demand-elim (isType (typeOf h)) 4 (λ t. demand-elim (isColour h) 7 (λ c q. q)) q
@@ -294,20 +305,20 @@ relay-frame d r bs e = go (markOf r) refl
     mark : markOf r ≡ isRetired (commandIn (fieldsOf r))
     mark = retired-read d r e ∙ ap isRetired (sym (heard-fields d r e))
 
-    go : (m : Bool) → markOf r ≡ m → writerOf (fieldsOf r) ≡ demand (not m) 17 (full d)
-    go true u = retired-refused (fieldsOf r) (sym mark ∙ u)
+    go : (m : Bool) → markOf r ≡ m → writerOf Open (fieldsOf r) ≡ demand (not m) 17 (full d)
+    go true u = retired-refused Open (fieldsOf r) (sym mark ∙ u)
     go false u =
         asked (fieldsOf r)
-        (requests .written-read d r bs e (current-writable (fieldsOf r) (accepted-frame d r bs e .0) (sym mark ∙ u)))
+        (requests Open .written-read d r bs e (current-writable Open (fieldsOf r) (accepted-frame d r bs e .0) (sym mark ∙ u) refl))
 
 pub relays : (d : List ℕ) (r : Heard) {out p : List ℕ} {w : Wrote} → Bytes d → readRequest d ≡ full r
-    → Written (writerOf (fieldsOf r)) out w p → Written (handedOn (readRequest d) d) out w p
+    → Written (writerOf Open (fieldsOf r)) out w p → Written (handedOn (readRequest d) d) out w p
 relays d r bs e w = rw e (rw (relay-frame d r bs e) at w)
 
 -- in writing no colour is refused for its type or its values: what is handed over is a colour
-pub colour-handed : (s : ℕ) (t : LineTarget) (l : ℕ) (c : Colour·enum.Colour) → Sized c
-    → frameOf (colour s (t .0) l (saidColour c)) ≡ colourFrame s t l (saidColour c)
-colour-handed s t l c h = go (saidColour c) (said-colour c h)
+pub colour-handed : (p : Profile) (s : ℕ) (t : LineTarget) (l : ℕ) (c : Colour·enum.Colour) → Sized c
+    → frameOf p (colour s (t .0) l (saidColour c)) ≡ colourFrame p s t l (saidColour c)
+colour-handed p s t l c h = go (saidColour c) (said-colour c h)
   where
-    go : (x : Hue) → isColour x ≡ true → frameOf (colour s (t .0) l x) ≡ colourFrame s t l x
+    go : (x : Hue) → isColour x ≡ true → frameOf p (colour s (t .0) l x) ≡ colourFrame p s t l x
     go (hue k vs) e = rw (both-left (isType k) (fitting (widthsOf k) vs) e, both-right (isType k) (fitting (widthsOf k) vs) e)

@@ -15,6 +15,8 @@ use Rattle.command.specs.declared.Rule.{Rule}
 use Rattle.command.specs.declared.Shape.the-variants.{Basic}
 use Rattle.command.specs.Command.{shapeOf, mayWrite}
 use Rattle.command.specs.Length.{unicastCommand, unicastLength, colourCommand}
+use Rattle.profile.specs.declared.Profile.{Profile}
+use Rattle.profile.specs.Profile.{allows}
 use Rattle.colour.specs.Colour.{Hue, typeOf, isColour, dataIn}
 use Rattle.ranges.specs.Arguments.{fits}
 
@@ -38,9 +40,10 @@ commandIn (basic s k a b c d) = k
 commandIn (unicast s port i j k l) = unicastCommand
 commandIn (colour s a l h) = colourCommand
 
--- what may be written: what is in range and has a command that may be
-abbrev pub Writable : Fields → Type 0
-Writable f = InRange f × (mayWrite (commandIn f) ≡ true)
+-- what may be written under a profile: what is in range and has a command that may be, and that the profile allows. W-203: "demand 2's writing
+-- half holds where the profile is not chosen, and under it for the commands inside"
+abbrev pub Writable : Profile → Fields → Type 0
+Writable p f = InRange f × (mayWrite (commandIn f) ≡ true) × (allows p (commandIn f) ≡ true)
 
 -- the bytes in front of the sum
 abbrev pub head : Fields → List ℕ

@@ -7,6 +7,7 @@ pub mod Writing
 pub mod One
 pub mod Demand2
 pub mod Retired
+pub mod Profiled
 -- what only serves proofs
 pub mod Reads
 pub mod Coloured

@@ -20,6 +20,7 @@ use Rattle.command.specs.Command.{shapeOf, isRetired}
 use Rattle.command.specs.Known.{unicast-only, colour-only, retired-only, retired-shape, unicast-current, colour-current}
 use Rattle.command.specs.Colours.{isType}
 use Rattle.command.specs.Length.{colourBytes}
+use Rattle.profile.specs.declared.Profile.{Profile}
 use Rattle.ranges.specs.Arguments.{fits}
 use Rattle.request.specs.Layout.{Fields, basic, unicast, colour, commandIn}
 use Rattle.request.specs.Said.{Heard, fieldsOf, commandOf, markOf}
@@ -78,22 +79,23 @@ module _ (d : List ℕ) (r : Heard) (e : readRequest d ≡ full r) where
   pub retired-read : markOf r ≡ isRetired (commandOf r)
   retired-read = told d r e .mark
 
--- a request with a retired command is refused with 17 by its writer, whatever its arguments are, and no byte is written
-pub retired-refused : (f : Fields) → isRetired (commandIn f) ≡ true → writerOf f ≡ refused 17
-retired-refused (basic s k a b c d) m =
-    let h : shapeOf k ≡ Basic Bare = rw (retired-only k m) (retired-shape .1) in
-    rw (h, m)
-retired-refused (unicast s port i j k l) m = not-both m unicast-current
-retired-refused (colour s a l h) m = not-both m colour-current
+module _ (p : Profile) where
+  -- a request with a retired command is refused with 17 by its writer, whatever its arguments and the profile are, and no byte is written
+  pub retired-refused : (f : Fields) → isRetired (commandIn f) ≡ true → writerOf p f ≡ refused 17
+  retired-refused (basic s k a b c d) m =
+      let h : shapeOf k ≡ Basic Bare = rw (retired-only k m) (retired-shape .1) in
+      rw (h, m)
+  retired-refused (unicast s port i j k l) m = not-both m unicast-current
+  retired-refused (colour s a l h) m = not-both m colour-current
 
--- no retired command is written
-pub written-current : (f : Fields) (x : List ℕ) → frameOf f ≡ full x → isRetired (commandIn f) ≡ false
-written-current (basic s k a b c d) x e = go (shapeOf k) e
-  where
-    go : (h : Shape) → basicOf h s k (record { a = a; b = b; c = c; d = d }) ≡ full x → isRetired k ≡ false
-    go Unknown e = clash (cc)
-    go Unicast e = clash (cc)
-    go Colour e = clash (cc)
-    go (Basic rule) e = demand-elim (not (isRetired k)) 17 (λ r q. not-true (isRetired k) r) e
-written-current (unicast s port i j k l) x e = unicast-current
-written-current (colour s a l h) x e = colour-current
+  -- no retired command is written
+  pub written-current : (f : Fields) (x : List ℕ) → frameOf p f ≡ full x → isRetired (commandIn f) ≡ false
+  written-current (basic s k a b c d) x e = go (shapeOf k) e
+    where
+      go : (h : Shape) → basicOf p h s k (record { a = a; b = b; c = c; d = d }) ≡ full x → isRetired k ≡ false
+      go Unknown e = clash (cc)
+      go Unicast e = clash (cc)
+      go Colour e = clash (cc)
+      go (Basic rule) e = demand-elim (not (isRetired k)) 17 (λ r q. not-true (isRetired k) r) e
+  written-current (unicast s port i j k l) x e = unicast-current
+  written-current (colour s a l h) x e = colour-current

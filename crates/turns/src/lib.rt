@@ -46,7 +46,7 @@ fn least(a: usize, b: usize) -> usize
 }
 
 // Moves the bytes of a buffer from a place on, up to an end, to its front, and answers how many they are.
-fn keep(buf: &mut [u8], from: usize, end: usize) -> usize
+pub fn keep(buf: &mut [u8], from: usize, end: usize) -> usize
     ensures { λ r. ⌜ Keeps (now (buf .entry)) from end r (now (buf .exit)) ⌝ }
 {
     let e = least(end, buf.len());

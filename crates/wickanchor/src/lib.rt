@@ -13,6 +13,8 @@ ghost use Rattle.frame.specs.Relay.{relayed};
 ghost use Rattle.target.specs.Target.{lightsOf, statusOf, lineOf, deviceOf, deviceNumber};
 ghost use Rattle.command.specs.Command.{isKnown};
 ghost use Rattle.command.specs.Colours.{xyType, tcType, rgbwafType};
+ghost use Rattle.profile.specs.declared.Profile.the-variants.{Open, Quiet};
+ghost use Rattle.profile.specs.Profile.{isInside};
 ghost use Rattle.colour.specs.Colour.{hue};
 ghost use Rattle.request.specs.Reading.{readRequest};
 ghost use Rattle.request.specs.Writing.{basicFrame, unicastFrame, colourFrame, handedOn};
@@ -29,7 +31,10 @@ ghost use Rattle.capture.specs.Capture.{opened, counted, prefixed, found, nothi
 ghost use Rattle.report.specs.Report.{reported, reporting};
 ghost use Rattle.by_parts.specs.Parts.{begun, parted, ended};
 ghost use Rattle.book.specs.Book.{freshBook};
-ghost use Rattle.line.specs.Rule.{itemAt};
+ghost use Rattle.stream.specs.Stream.{items};
+ghost use Rattle.line.specs.declared.Line.the-variants.{Request};
+ghost use Rattle.line.specs.Rule.{itemAt, settle};
+ghost use Rattle.quiet_run.specs.Quiet.{firstLoud};
 ghost use Rattle.reader.specs.Reader.{hold};
 ghost use Rattle.c_datagrams.specs.Written.{WrittenOut};
 ghost use Rattle.c_datagrams.specs.Requests.{aimOut, requestOut, addressIn};
@@ -38,7 +43,7 @@ ghost use Rattle.c_datagrams.specs.Events.{eventOut, macIn};
 ghost use Rattle.c_values.specs.Numbers.{numberOut, lineOut, deviceOut};
 ghost use Rattle.c_values.specs.Filters.{filtersOut, filterOut};
 ghost use Rattle.c_values.specs.Books.{bookIn, bookOut, askedOut, repliedOut};
-ghost use Rattle.c_values.specs.Lines.{lineBy, readerIn, readerOut, fedOut, closedOut, positionOut};
+ghost use Rattle.c_values.specs.Lines.{lineBy, readerIn, readerOut, fedOut, closedOut, positionOut, quietOut};
 ghost use Rattle.c_capture.specs.Captures.{summaryIn, markIn, foundOut, openedOut, countedOut, EmptiesOut, AppendsAtOut, AppendsOut, RunsOut, RunsAtOut};
 ghost use Rattle.c_capture.specs.Records.{recordOut};
 ghost use Rattle.c_seasons.specs.Seasons.{corridorIn, boundariesIn, seasonsOut};
@@ -71,10 +76,12 @@ use c_values::WickFilters;
 use c_values::WickGiven;
 use c_values::WickItem;
 use c_values::WickNumber;
+use c_values::WickQuiet;
 use c_values::WickReader;
 use colour::Colour;
 use event::Layout;
 use meaning::Arguments;
+use profile::Profile;
 use target::Device;
 use target::Group;
 use target::LineTarget;
@@ -93,6 +100,14 @@ pub extern "C" fn wick_known(command: u8) -> u8
     ensures { λ r. ⌜ r ≡ flag (isKnown command) ⌝ }
 {
     command::known(command) as u8
+}
+
+// 1 where the command is inside the quiet profile, else 0.
+#[no_mangle]
+pub extern "C" fn wick_inside(command: u8) -> u8
+    ensures { λ r. ⌜ r ≡ flag (isInside command) ⌝ }
+{
+    profile::inside(command) as u8
 }
 
 // Reads a request datagram.
@@ -114,9 +129,15 @@ pub extern "C" fn wick_write_basic(
     d: u8,
     out: &mut [u8],
 ) -> WickWrote
-    ensures { λ w. ⌜ WrittenOut (basicFrame sequence command (record { a = a; b = b; c = c; d = d })) (now (out .entry)) w (now (out .exit)) ⌝ }
+    ensures { λ w. ⌜ WrittenOut (basicFrame Open sequence command (record { a = a; b = b; c = c; d = d })) (now (out .entry)) w (now (out .exit)) ⌝ }
 {
-    c_datagrams::wrote_out(writers::basic(sequence, command, Arguments { a, b, c, d }, out))
+    c_datagrams::wrote_out(writers::basic(
+        Profile::Open,
+        sequence,
+        command,
+        Arguments { a, b, c, d },
+        out,
+    ))
 }
 
 // Writes request 40.
@@ -127,9 +148,15 @@ pub extern "C" fn wick_write_unicast(
     address: WickAddress,
     out: &mut [u8],
 ) -> WickWrote
-    ensures { λ w. ⌜ WrittenOut (unicastFrame sequence port (addressIn address)) (now (out .entry)) w (now (out .exit)) ⌝ }
+    ensures { λ w. ⌜ WrittenOut (unicastFrame Open sequence port (addressIn address)) (now (out .entry)) w (now (out .exit)) ⌝ }
 {
-    c_datagrams::wrote_out(writers::unicast(sequence, port, c_datagrams::address_in(address), out))
+    c_datagrams::wrote_out(writers::unicast(
+        Profile::Open,
+        sequence,
+        port,
+        c_datagrams::address_in(address),
+        out,
+    ))
 }
 
 // Writes a colour request of type 10.
@@ -142,10 +169,17 @@ pub extern "C" fn wick_write_colour_xy(
     y: u16,
     out: &mut [u8],
 ) -> WickWrote
-    ensures { λ w. ⌜ WrittenOut (colourFrame sequence (record { 0 = target }) level (hue xyType (x ∷ y ∷ []))) (now (out .entry)) w (now (out .exit)) ⌝ }
+    ensures { λ w. ⌜ WrittenOut (colourFrame Open sequence (record { 0 = target }) level (hue xyType (x ∷ y ∷ []))) (now (out .entry)) w (now (out .exit)) ⌝ }
 {
     let colour = Colour::Xy { x, y };
-    c_datagrams::wrote_out(writers::colour(sequence, LineTarget(target), level, colour, out))
+    c_datagrams::wrote_out(writers::colour(
+        Profile::Open,
+        sequence,
+        LineTarget(target),
+        level,
+        colour,
+        out,
+    ))
 }
 
 // Writes a colour request of type 20.
@@ -157,10 +191,17 @@ pub extern "C" fn wick_write_colour_tc(
     tc: u16,
     out: &mut [u8],
 ) -> WickWrote
-    ensures { λ w. ⌜ WrittenOut (colourFrame sequence (record { 0 = target }) level (hue tcType (tc ∷ []))) (now (out .entry)) w (now (out .exit)) ⌝ }
+    ensures { λ w. ⌜ WrittenOut (colourFrame Open sequence (record { 0 = target }) level (hue tcType (tc ∷ []))) (now (out .entry)) w (now (out .exit)) ⌝ }
 {
     let colour = Colour::Tc(tc);
-    c_datagrams::wrote_out(writers::colour(sequence, LineTarget(target), level, colour, out))
+    c_datagrams::wrote_out(writers::colour(
+        Profile::Open,
+        sequence,
+        LineTarget(target),
+        level,
+        colour,
+        out,
+    ))
 }
 
 // Writes a colour request of type 80.
@@ -177,7 +218,7 @@ pub extern "C" fn wick_write_colour_rgbwaf(
     free: u8,
     out: &mut [u8],
 ) -> WickWrote
-    ensures { λ w. ⌜ WrittenOut (colourFrame sequence (record { 0 = target }) level (hue rgbwafType (red ∷ green ∷ blue ∷ white ∷ amber ∷ free ∷ []))) (now (out .entry)) w (now (out .exit)) ⌝ }
+    ensures { λ w. ⌜ WrittenOut (colourFrame Open sequence (record { 0 = target }) level (hue rgbwafType (red ∷ green ∷ blue ∷ white ∷ amber ∷ free ∷ []))) (now (out .entry)) w (now (out .exit)) ⌝ }
 {
     let colour = Colour::Rgbwaf {
         red,
@@ -187,7 +228,134 @@ pub extern "C" fn wick_write_colour_rgbwaf(
         amber,
         free,
     };
-    c_datagrams::wrote_out(writers::colour(sequence, LineTarget(target), level, colour, out))
+    c_datagrams::wrote_out(writers::colour(
+        Profile::Open,
+        sequence,
+        LineTarget(target),
+        level,
+        colour,
+        out,
+    ))
+}
+
+// Writes a basic request under the quiet profile: 13 where its command is outside.
+#[no_mangle]
+pub extern "C" fn wick_write_basic_quiet(
+    sequence: u8,
+    command: u8,
+    a: u8,
+    b: u8,
+    c: u8,
+    d: u8,
+    out: &mut [u8],
+) -> WickWrote
+    ensures { λ w. ⌜ WrittenOut (basicFrame Quiet sequence command (record { a = a; b = b; c = c; d = d })) (now (out .entry)) w (now (out .exit)) ⌝ }
+{
+    c_datagrams::wrote_out(writers::basic(
+        Profile::Quiet,
+        sequence,
+        command,
+        Arguments { a, b, c, d },
+        out,
+    ))
+}
+
+// Writes nothing: request 40 is outside the quiet profile, 13.
+#[no_mangle]
+pub extern "C" fn wick_write_unicast_quiet(
+    sequence: u8,
+    port: u16,
+    address: WickAddress,
+    out: &mut [u8],
+) -> WickWrote
+    ensures { λ w. ⌜ WrittenOut (unicastFrame Quiet sequence port (addressIn address)) (now (out .entry)) w (now (out .exit)) ⌝ }
+{
+    c_datagrams::wrote_out(writers::unicast(
+        Profile::Quiet,
+        sequence,
+        port,
+        c_datagrams::address_in(address),
+        out,
+    ))
+}
+
+// Writes nothing: a colour request, here of type 10, is outside the quiet profile, 13; 7 comes first.
+#[no_mangle]
+pub extern "C" fn wick_write_colour_xy_quiet(
+    sequence: u8,
+    target: u8,
+    level: u8,
+    x: u16,
+    y: u16,
+    out: &mut [u8],
+) -> WickWrote
+    ensures { λ w. ⌜ WrittenOut (colourFrame Quiet sequence (record { 0 = target }) level (hue xyType (x ∷ y ∷ []))) (now (out .entry)) w (now (out .exit)) ⌝ }
+{
+    let colour = Colour::Xy { x, y };
+    c_datagrams::wrote_out(writers::colour(
+        Profile::Quiet,
+        sequence,
+        LineTarget(target),
+        level,
+        colour,
+        out,
+    ))
+}
+
+// Writes nothing: a colour request, here of type 20, is outside the quiet profile, 13; 7 comes first.
+#[no_mangle]
+pub extern "C" fn wick_write_colour_tc_quiet(
+    sequence: u8,
+    target: u8,
+    level: u8,
+    tc: u16,
+    out: &mut [u8],
+) -> WickWrote
+    ensures { λ w. ⌜ WrittenOut (colourFrame Quiet sequence (record { 0 = target }) level (hue tcType (tc ∷ []))) (now (out .entry)) w (now (out .exit)) ⌝ }
+{
+    let colour = Colour::Tc(tc);
+    c_datagrams::wrote_out(writers::colour(
+        Profile::Quiet,
+        sequence,
+        LineTarget(target),
+        level,
+        colour,
+        out,
+    ))
+}
+
+// Writes nothing: a colour request, here of type 80, is outside the quiet profile, 13; 7 comes first.
+#[no_mangle]
+pub extern "C" fn wick_write_colour_rgbwaf_quiet(
+    sequence: u8,
+    target: u8,
+    level: u8,
+    red: u8,
+    green: u8,
+    blue: u8,
+    white: u8,
+    amber: u8,
+    free: u8,
+    out: &mut [u8],
+) -> WickWrote
+    ensures { λ w. ⌜ WrittenOut (colourFrame Quiet sequence (record { 0 = target }) level (hue rgbwafType (red ∷ green ∷ blue ∷ white ∷ amber ∷ free ∷ []))) (now (out .entry)) w (now (out .exit)) ⌝ }
+{
+    let colour = Colour::Rgbwaf {
+        red,
+        green,
+        blue,
+        white,
+        amber,
+        free,
+    };
+    c_datagrams::wrote_out(writers::colour(
+        Profile::Quiet,
+        sequence,
+        LineTarget(target),
+        level,
+        colour,
+        out,
+    ))
 }
 
 // Reads a request and writes it again, unless its command is retired.
@@ -505,6 +673,14 @@ pub extern "C" fn wick_item_at(on: u8, closed: u8, s: &[u8]) -> WickItem
     ensures { λ w. ⌜ w ≡ positionOut (itemAt (lineBy on) (not (eqb closed 0)) (now (s .entry))) ⌝ }
 {
     c_values::item_out(line::item_at(c_values::line_by(on), closed != 0, s))
+}
+
+// The quiet profile applied to a finished run of requests.
+#[no_mangle]
+pub extern "C" fn wick_quiet(s: &[u8]) -> WickQuiet
+    ensures { λ w. ⌜ w ≡ quietOut (firstLoud 0 (items (settle Request) (now (s .entry)))) ⌝ }
+{
+    c_values::quiet_out(quiet_run::first(s))
 }
 
 // Empties a capture.

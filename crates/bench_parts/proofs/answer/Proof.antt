@@ -26,23 +26,35 @@ fits-requires c κs = search needs
 enum-known-p-5 : tie.Need-enum-known-p-5
 enum-known-p-5 c = search needs
 
-name-requires : tie.Need-name-requires
-name-requires c κs = search needs
+inside-requires : tie.Need-inside-requires
+inside-requires c κs = search needs
 
 enum-known-p-6 : tie.Need-enum-known-p-6
 enum-known-p-6 c = search needs
 
-on-line-requires : tie.Need-on-line-requires
-on-line-requires c κs = search needs
+quiet-requires : tie.Need-quiet-requires
+quiet-requires c κs = search needs
 
 enum-known-p-7 : tie.Need-enum-known-p-7
 enum-known-p-7 c = search needs
 
-device-requires : tie.Need-device-requires
-device-requires c κs = search needs
+name-requires : tie.Need-name-requires
+name-requires c κs = search needs
 
 enum-known-p-8 : tie.Need-enum-known-p-8
 enum-known-p-8 c = search needs
+
+on-line-requires : tie.Need-on-line-requires
+on-line-requires c κs = search needs
+
+enum-known-p-9 : tie.Need-enum-known-p-9
+enum-known-p-9 c = search needs
+
+device-requires : tie.Need-device-requires
+device-requires c κs = search needs
+
+enum-known-p-10 : tie.Need-enum-known-p-10
+enum-known-p-10 c = search needs
 
 number-requires : tie.Need-number-requires
 number-requires c κs = search needs
@@ -60,16 +72,22 @@ returns-4 : tie.Need-returns-4
 returns-4 c = rw (c .before .before .p4 .given .1, ← c .fits2 .ensures)
 
 returns-5 : tie.Need-returns-5
-returns-5 c = search needs
+returns-5 c = rw (c .before .before .p5 .given .1, ← c .inside .ensures)
 
 returns-6 : tie.Need-returns-6
-returns-6 c = search needs
+returns-6 c = rw (c .before .before .p6 .given .1, ← c .quiet .ensures)
 
 returns-7 : tie.Need-returns-7
 returns-7 c = search needs
 
 returns-8 : tie.Need-returns-8
 returns-8 c = search needs
+
+returns-9 : tie.Need-returns-9
+returns-9 c = search needs
+
+returns-10 : tie.Need-returns-10
+returns-10 c = search needs
 
 pub answer-spec : {M : Type 1} → statement M
 answer-spec =
@@ -83,12 +101,16 @@ answer-spec =
     enum-known-p-4
     fits-requires
     enum-known-p-5
-    name-requires
+    inside-requires
     enum-known-p-6
-    on-line-requires
+    quiet-requires
     enum-known-p-7
-    device-requires
+    name-requires
     enum-known-p-8
+    on-line-requires
+    enum-known-p-9
+    device-requires
+    enum-known-p-10
     number-requires
     returns
     returns-2
@@ -97,4 +119,6 @@ answer-spec =
     returns-5
     returns-6
     returns-7
-    returns-8)
+    returns-8
+    returns-9
+    returns-10)

@@ -1,8 +1,5 @@
-use mathlib.Core.Path.{_≡_, refl}
-use mathlib.Core.Bool.{Bool, true, false}
-use mir.Val.{boolByte}
-use Rattle.refusal.specs.Test.{flag}
 use borrow.Author.Needs.{needs}
+use Rattle.wickanchor.proofs.Flag.{byte-flag}
 use Rattle.wickanchor.proofs.wick_known.Statement.{statement}
 use Rattle.wickanchor.proofs.wick_known.Tie as tie
 
@@ -11,10 +8,6 @@ known-requires c κs = search needs
 
 cast-result : tie.Need-cast-result
 cast-result c = search needs
-
-byte-flag : (b : Bool) → boolByte b ≡ flag b
-byte-flag true = refl
-byte-flag false = refl
 
 returns : tie.Need-returns
 returns c = rw (← c .known .ensures) (byte-flag (c .known .result))
