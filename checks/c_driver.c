@@ -308,6 +308,11 @@ static void sum(void) { printf("0 sum %02X", wick_sum(g[0].bytes, g[0].n)); }
 static void known(void) { printf(wick_known(g[0].bytes[0]) ? "0 known" : "0 unknown"); }
 static void inside(void) { printf(wick_inside(g[0].bytes[0]) ? "0 inside" : "0 outside"); }
 
+static void table(void) {
+    struct wick_entry e = wick_table(g[0].bytes[0]);
+    printf("0 shape %u rule %u", e.shape, e.rule);
+}
+
 static void event_type(void) {
     printf("0 type %u ", g[0].bytes[0]);
     type_name(g[0].bytes[0]);
@@ -825,7 +830,7 @@ static const struct {
     CALL(relay_request), CALL(relay_reply), CALL(relay_event), CALL(relay_event_two),
     CALL(reply), CALL(reply_data), CALL(error_code), CALL(write_reply), CALL(event), CALL(event_data), CALL(write_event),
     CALL(event_two), CALL(event_two_data), CALL(write_event_two),
-    CALL(sum), CALL(known), CALL(inside), CALL(error_name), CALL(event_type), CALL(group_target), CALL(device), CALL(device_number), CALL(name),
+    CALL(sum), CALL(known), CALL(inside), CALL(table), CALL(error_name), CALL(event_type), CALL(group_target), CALL(device), CALL(device_number), CALL(name),
     CALL(lights), CALL(status), CALL(mask), CALL(scenes), CALL(gear), CALL(types), CALL(count_types), CALL(count_gear),
     CALL(lowest_type), CALL(lowest_gear), CALL(filters), CALL(filter), CALL(book_fresh), CALL(book_set), CALL(book_show), CALL(ask), CALL(answer),
     CALL(fresh_request), CALL(fresh_reply), CALL(hold_request), CALL(hold_reply), CALL(feed_request), CALL(feed_reply),

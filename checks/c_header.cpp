@@ -1,7 +1,7 @@
 // The header in C++: it compiles, its functions link, the scenes that it names are the last that requests take, colour requests have the
 // sizes and fields that it names and none is longer, what it calls retired is read, marked and not written, 18 commands are
-// inside the quiet profile and a run of them passes, the sizes and targets that it names for
-// each layout of events are the ends of theirs, and captures, runs of datagrams and seasons, whole and part by part, are as it says.
+// inside the quiet profile and a run of them passes, the table of commands has the shapes that it names, the sizes and targets that it
+// names for each layout of events are the ends of theirs, and captures, runs of datagrams and seasons, whole and part by part, are as it says.
 #include "wickanchor.h"
 
 // What writing a request with these arguments is refused with.
@@ -239,12 +239,32 @@ static bool layouts() {
         && parts(three, WICK_CAPTURE_THREE, WICK_RECORD_MOST) && parts(two, WICK_CAPTURE_TWO, WICK_RECORD_TWO_MOST);
 }
 
+// How many commands the table has with a shape.
+static int shaped(uint8_t shape) {
+    int n = 0;
+    for (int command = 0; command < 256; command++) n += wick_table((uint8_t)command).shape == shape;
+    return n;
+}
+
+// Of the 256 entries 31 are basic, one is 40 and one colour, and the rest unknown; an entry has a rule exactly if its command is known, and the two
+// commands that set filters share one.
+static bool table() {
+    for (int command = 0; command < 256; command++) {
+        const struct wick_entry e = wick_table((uint8_t)command);
+        if (wick_known((uint8_t)command) != (e.rule != 0) || (e.shape == WICK_SHAPE_UNKNOWN) != (e.rule == 0)) return false;
+    }
+    return shaped(WICK_SHAPE_BASIC) == 31 && shaped(WICK_SHAPE_UNICAST) == 1 && shaped(WICK_SHAPE_COLOUR) == 1 && shaped(WICK_SHAPE_UNKNOWN) == 223
+        && wick_table(WICK_SET_TPI_EVENT_UNICAST_ADDRESS).shape == WICK_SHAPE_UNICAST && wick_table(WICK_DALI_COLOUR).shape == WICK_SHAPE_COLOUR
+        && wick_table(WICK_DALI_ADD_TPI_EVENT_FILTER).rule == wick_table(WICK_DALI_CLEAR_TPI_EVENT_FILTERS).rule
+        && wick_table(WICK_DALI_ARC_LEVEL).rule != wick_table(WICK_DALI_OFF).rule;
+}
+
 int main() {
     const uint8_t frame[] = {0xA1, 0x00, 0x02, 0x07, 0x0F, 0xAB};
     uint8_t out[WICK_REPLY_MOST];
     const struct wick_reply r = wick_reply(frame, sizeof frame);
     const struct wick_wrote w = wick_write_reply(WICK_REPLY_ANSWER, r.sequence, frame + r.data_at, r.n, out, sizeof out);
     const struct wick_given v = wick_feed(WICK_REPLY_LINE, wick_reader(), out, w.count);
-    return r.refusal == WICK_OK && w.count == sizeof frame && v.has_item && v.item == 0 && v.count == w.count && scenes() && colours() && retired() && quiet() && layouts()
+    return r.refusal == WICK_OK && w.count == sizeof frame && v.has_item && v.item == 0 && v.count == w.count && scenes() && colours() && retired() && quiet() && table() && layouts()
         ? 0 : 1;
 }

@@ -24,8 +24,8 @@
    functions whose names begin with wick_write_colour, command 0E, which has a name, and the colour in struct wick_request, which is longer; a
    reader of a request line holds up to 12 bytes. 10: command 0A is retired (W-210): refusal 17, which has a name, and `retired` in struct
    wick_request, in the place of a byte that said nothing, so that no other field moves. 11: the quiet profile (W-203): the functions whose names
-   end in _quiet, wick_inside, wick_quiet, and refusal 13, which has a name. */
-#define WICKANCHOR_VERSION 11
+   end in _quiet, wick_inside, wick_quiet, and refusal 13, which has a name. 12: the table of commands (W-209): wick_table. */
+#define WICKANCHOR_VERSION 12
 
 #ifdef __cplusplus
 extern "C" {
@@ -293,6 +293,19 @@ struct wick_filter {
     uint16_t mask;
 };
 
+/* What the table of commands has of a command (docs/COMMANDS.md) */
+enum wick_shape {
+    WICK_SHAPE_UNKNOWN = 0,
+    WICK_SHAPE_BASIC = 1,
+    WICK_SHAPE_UNICAST = 2,         /* that of command 40 */
+    WICK_SHAPE_COLOUR = 3
+};
+
+struct wick_entry {
+    uint8_t shape;                  /* of the frame, one of enum wick_shape */
+    uint8_t rule;                   /* of the arguments: 0 none, 1 to 15 in document 01's order, 16 for command 40, 17 for colour */
+};
+
 /* The book of unanswered requests: the command asked under each sequence number (a number that is no known command counts as nothing
    asked), and the last number given. A caller keeps it, hands it in by value, and goes on with the one handed back. */
 struct wick_book {
@@ -492,6 +505,7 @@ WICK_SIZE(struct wick_code, 4);
 WICK_SIZE(struct wick_event, 32);
 WICK_SIZE(struct wick_filters, 16);
 WICK_SIZE(struct wick_filter, 6);
+WICK_SIZE(struct wick_entry, 2);
 WICK_SIZE(struct wick_book, 257);
 WICK_SIZE(struct wick_booked, 259);
 WICK_SIZE(struct wick_reader, 80);
@@ -582,6 +596,9 @@ uint8_t wick_known(uint8_t command);
 
 /* 1 where the command is inside the quiet profile, else 0: 18 of the 33 are, all queries. WICK_QUERY_SCENE_NUMBERS is one, though it is retired. */
 uint8_t wick_inside(uint8_t command);
+
+/* The entry of a command in the table of commands: shape and rule, 0 and 0 for an unknown one. */
+struct wick_entry wick_table(uint8_t command);
 
 /* Maps in reply data, as one number whose bit k stands for event type, scene, gear or gear type k. Refusal 11 where there are not 2, 2, 8 or 4
    bytes. */

@@ -11,6 +11,7 @@ import sys
 import opinion
 
 FRAMES = os.path.join(os.path.dirname(os.path.abspath(__file__)), "frames.txt")
+COMMANDS = os.path.join(os.path.dirname(os.path.abspath(__file__)), "commands.txt")
 
 
 # Writing calls
@@ -3527,11 +3528,116 @@ QUIET_RUN = b"".join(INSIDE_FRAMES + [SIX[1], SIX[3], SIX[4]]) + basic(21, 0xA1,
 
 
 def quiet_runs():
-    """The last line of all is a run with 0A, and has no line feed."""
+    """Runs of every kind, and at the end one with 0A."""
     for part in [frames_alone(), good_runs(), one_frame_among_them(), cut_quiet_runs(), one_byte_of_noise(), damaged_and_quiet(), unknown_and_quiet(),
                  retired_and_quiet(), replies_and_quiet(), frames_that_lie_hidden(), quiet_runs_by_chance(), quiet_beside_the_readers()]:
         yield from part
     yield from [quiet(QUIET_RUN), quiet(QUIET_RUN[:-8]), quiet(SIX[0], plain(0, 0x0A))]
+
+
+# W-209: the table of commands
+
+def listed_commands():
+    """The maker's list, in its order: each command's number, its name and the type of its frame."""
+    with open(COMMANDS, encoding="ascii") as file:
+        rows = [line.rstrip("\n").split("\t") for line in file]
+    return [(int(number, 16), name, frame_type) for _, number, name, frame_type in rows]
+
+
+def table(command):
+    return call("table", [command])
+
+
+def all_entries():
+    """Every command byte, in order."""
+    for command in range(256):
+        yield table(command)
+
+
+def entries_of_the_list():
+    """The maker's list, in its order: each entry with the name beside it."""
+    for command, _, _ in listed_commands():
+        yield from [table(command), call("name", [1, command], pattern(35))]
+
+
+def entries_beside_the_decision():
+    """Each known command and the numbers next to it: the entry beside what the other calls say of it."""
+    known = KNOWN + [0x0E]
+    for command in sorted(set(known + [beside for own in known for beside in [own - 1, own + 1]])):
+        yield from [table(command), call("known", [command]), call("shape", [command])]
+        for arguments in [bytes(4), b"\xFF" * 4]:
+            yield call("fits", bytes([command]) + arguments)
+
+
+# Arguments that tell the rules with nearly the same ranges apart: within one of them, outside the next.
+TOLD_APART = [
+    (0x01, [15, 12, 0, 0]), (0x1A, [15, 12, 0, 0]), (0x1B, [15, 12, 0, 0]), (0x34, [64, 0, 0, 0]), (0xAC, [64, 0, 0, 0]), (0xAA, [64, 0, 0, 0]),
+    (0xAA, [81, 0, 0, 0]), (0xAB, [81, 0, 0, 0]), (0xA1, [81, 0, 0, 0]), (0xA1, [127, 0, 0, 15]), (0xA1, [127, 0, 0, 16]), (0xA2, [127, 0, 0, 16]),
+    (0xA3, [127, 0, 0, 16]), (0xA0, [127, 0, 1, 16]), (0xA2, [127, 0, 1, 16]),
+]
+
+
+def entries_of_one_rule():
+    """The commands of one rule, one behind the other, with arguments at both ends of its ranges; and rules that are nearly the same."""
+    for rule in opinion.RULES:
+        for command in [command for command in sorted(opinion.BASIC) if opinion.BASIC[command] == rule]:
+            yield table(command)
+            for arguments in sorted(set(good_arguments(command, min) + good_arguments(command, max))):
+                yield call("fits", bytes([command]) + arguments)
+    for command, arguments in TOLD_APART:
+        yield from [table(command), call("fits", bytes([command]) + bytes(arguments))]
+
+
+def entries_beside_what_is_carried():
+    """The book and the readers stay as they are, and the entry does too, whatever they hold."""
+    yield from ["book_fresh", ask(0x09), "fresh_request", "fresh_reply", "feed_request 04 00 40", "feed_reply A1 00 02"]
+    for command in [0x0A, 0x09, 0x0E, 0x40, 0x00, 0xFF]:
+        yield from [table(command), ask(command), table(command), "book_show", answered(0), table(command)]
+    yield from ["show_request", "feed_request 06 00 00 00 00 00 00 42", table(0x40), "show_reply", "feed_reply 07 0F AB", table(0xA1)]
+    yield from ["close_request", "close_reply", "book_show"]
+
+
+def table_of_commands():
+    for part in [all_entries(), entries_of_the_list(), entries_beside_the_decision(), entries_of_one_rule(), entries_beside_what_is_carried()]:
+        yield from part
+    yield "help"
+
+
+# Lines that are no call of the table, by the rows of "What is no call", from its second; some are so by several rows.
+TABLE_NO_CALLS = [
+    filled("table 01", 4096), filled("table 01", 4097), " " * 4088 + "table 01", "table" + " " * 4089 + "01", filled("table", 4096),
+    filled("tables 01", 4096), filled("table zz", 4096), "table" + " 01" * 1364,
+
+    "tables 01", "tabl 01", "Table 01", "TABLE 01", "tablE 01", "table_ 01", "_table 01", "table01", "table_01", "table: 01", "table/ 01",
+    "/table 01", "table\t01", "table\r", "table\x00 01", "tab 01", "able 01", "t 01", "table_shape 01", "table_rule 01", "table_show", "table_set 01",
+    "table_quiet 01", "shape_table 01", "command_table 01", "commands 01", "command 01", "rule 01", "rules", "shapes 01", "entry 01", "tables",
+    "tabl zz", "Table / /", "01 table", "/ table 01",
+
+    "table 1", "table 001", "table 0001", "table 0G", "table G0", "table 0x01", "table 01h", "table zz", "table 1_", "table +1", "table -1",
+    "table 1.", "table 256", "table 01,", "table 01/", "table /01", "table //", "table 01 /08", "table 01\r", "table 01 \r", "table \t", "table 01\t",
+    "table 0\x00", "table \xFF\xFE", "table \xB2\xB3", "table 01 zz", "table zz 01", "table / zz", "table zz /", "table 01 08 zz", "table table",
+    "table shape 01", "table help",
+
+    "table /", "table / /", "table 01 /", "table / 01", "table 01 / 08", "table 01 / 08 / 09", "table 01 08 /", "table / 01 08", "table / / / /",
+
+    "table", "table ", "table 01 08", "table 00 01", "table 01 01", "table 01 00 00 00 00", "table 01 02 03 04 05 06 07 08",
+    "table" + " 0A" * 255, "table" + " 0A" * 256, "table" + " 40" * 1363,
+]
+
+# The longest line, blanks before, between and behind the words, and small letters.
+TABLE_CALLS_SET_OTHERWISE = [
+    filled("table 01", 4095), " " * 4087 + "table 1A", "table" + " " * 4088 + "08", filled("table", 4095), filled("tables 01", 4095),
+    filled("table zz", 4095), "table" + " 01" * 1363 + " ",
+    " table 01", "table 01 ", "  table   1a  ", "table  0b", "table 0a", "table 0A", "table 0e", "table ab", "table aB", "table Ab", "  table  ff  ",
+    "table af", " table aF", "table   40   ", "table a9", "table aC", "table 1c",
+]
+
+
+def no_table_calls():
+    """Lines that are no call, between what the run carries; the last line of all is the last row of document 01's table, and has no line feed."""
+    yield from ["fresh_request", "feed_request 04 00 0A", "book_fresh", ask(0x41)]
+    yield from TABLE_NO_CALLS + ["show_request", "book_show"] + ["close_request"] * 4 + TABLE_CALLS_SET_OTHERWISE
+    yield table(0xAB)
 
 
 KINDS = [
@@ -3564,6 +3670,8 @@ KINDS = [
     ("the quiet profile in writing (W-203)", quiet_writing),
     ("lines that are no call of the quiet profile (W-203)", no_quiet_calls),
     ("the quiet profile of runs (W-203)", quiet_runs),
+    ("the table of commands (W-209)", table_of_commands),
+    ("lines that are no call of the table of commands (W-209)", no_table_calls),
 ]
 
 

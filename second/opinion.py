@@ -219,6 +219,19 @@ def inside(command):
     return known(command) and command not in OUTSIDE
 
 
+# Document 02, W-209: "for each command number its frame shape and a number for its argument rule". docs/BENCH.md: "Shapes: 0 unknown, 1 basic, 2 that
+# of request 40, 3 colour. Rules: 0 none, 1 to 15 in the order of document 01's table (01 and 1A are 1, 08 is 2, .. AB is 15), 16 for 40, 17 for
+# colour". BASIC has the rows in that order. A rule is numbered where a row states it first: "A group 0-15" is said of 01 and, four rows on, of 1A.
+RULES_IN_ORDER = list(dict.fromkeys(BASIC.values()))
+
+
+def table_entry(command):
+    """The command's entry in the table: the numbers of its shape and of its rule."""
+    if command in BASIC:
+        return 1, 1 + RULES_IN_ORDER.index(BASIC[command])
+    return {UNICAST: (2, 16), COLOUR: (3, 17)}.get(command, (0, 0))
+
+
 # Document 02, W-210: "The source calls 0A legacy, since its reply does not say which group it means." It stays a known command. The source says
 # the same of 02 and 13, which are unknown.
 SCENE_LIST = 0x0A
@@ -979,6 +992,11 @@ def fits_fields(command, arguments):
     return ["fits" if fits(command, arguments) else "outside"]
 
 
+def table_fields(command):
+    shape, rule = table_entry(command)
+    return ["shape", shape, "rule", rule]
+
+
 def filters_fields(data):
     mode, entries = read_filters(data)
     return ["mode", mode, "entries", len(entries)]
@@ -1222,6 +1240,7 @@ PART_CALLS = {
     "shape": ([exactly(1)], plain(lambda command: shape_fields(command[0]))),
     "fits": ([exactly(5)], plain(lambda run: fits_fields(run[0], run[1:]))),
     "inside": ([exactly(1)], plain(lambda command: ["inside" if inside(command[0]) else "outside"])),
+    "table": ([exactly(1)], plain(lambda command: table_fields(command[0]))),
     "error_name": ([exactly(1)], plain(lambda code: error_name_fields(code[0]))),
     "event_type": ([exactly(1)], plain(lambda number: event_type_fields(number[0]))),
     "group_target": ([exactly(1)], plain(lambda group: ["target", group_target(group[0])])),

@@ -406,6 +406,50 @@ STATED_LATER = [
     ("capture_run 00 00 01 07 /", "15"),
     ("capture_run_at 00 00 01 07 / 00 00", "0 in 0 refused 1 used 6"),
     ("capture_show", "0 used 6 bytes 01 00 03 00 00 00 records 2 first 263 last 264 counts 0 0 0 2 0 0 0 0 0 0 0 mark 6 last 5"),
+    # W-209: "for each command number its frame shape and a number for its argument rule"; 1 is basic, and the rules are numbered "in the order of
+    # document 01's table (01 and 1A are 1, 08 is 2, .. AB is 15)": "A group 0-15" stands in the row of 01 and again in that of 1A
+    ("table 01", "0 shape 1 rule 1"),
+    ("table 1A", "0 shape 1 rule 1"),
+    # "A has no bits outside C3"
+    ("table 08", "0 shape 1 rule 2"),
+    # "09, 0A, 0B, 1C, 1D, 41 | none": a rule too; 0A is retired and keeps it
+    ("table 09", "0 shape 1 rule 3"),
+    ("table 0A", "0 shape 1 rule 3"),
+    ("table 0B", "0 shape 1 rule 3"),
+    ("table 1C", "0 shape 1 rule 3"),
+    ("table 1D", "0 shape 1 rule 3"),
+    ("table 41", "0 shape 1 rule 3"),
+    # "0C occupancy timers", "1B scene label", "20 DMX label"
+    ("table 0C", "0 shape 1 rule 4"),
+    ("table 1B", "0 shape 1 rule 5"),
+    ("table 20", "0 shape 1 rule 6"),
+    # "31 add, 33 clear filter", "32 query filters", "34 colour, AC gear type"
+    ("table 31", "0 shape 1 rule 7"),
+    ("table 33", "0 shape 1 rule 7"),
+    ("table 32", "0 shape 1 rule 8"),
+    ("table 34", "0 shape 1 rule 9"),
+    ("table AC", "0 shape 1 rule 9"),
+    # "A0 inhibit", "A1 scene", whose range W-201 has mended, "A2 arc level", "A3 to A9"
+    ("table A0", "0 shape 1 rule 10"),
+    ("table A1", "0 shape 1 rule 11"),
+    ("table A2", "0 shape 1 rule 12"),
+    ("table A3", "0 shape 1 rule 13"),
+    ("table A9", "0 shape 1 rule 13"),
+    # "AA, AD, AE", "AB gear status"
+    ("table AA", "0 shape 1 rule 14"),
+    ("table AD", "0 shape 1 rule 14"),
+    ("table AE", "0 shape 1 rule 14"),
+    ("table AB", "0 shape 1 rule 15"),
+    # "2 that of request 40, 3 colour", "16 for 40, 17 for colour"
+    ("table 40", "0 shape 2 rule 16"),
+    ("table 0E", "0 shape 3 rule 17"),
+    # "0 unknown", "0 none": also what the maker's list has and document 01 has not
+    ("table 00", "0 shape 0 rule 0"),
+    ("table 02", "0 shape 0 rule 0"),
+    ("table 0D", "0 shape 0 rule 0"),
+    ("table 10", "0 shape 0 rule 0"),
+    ("table AF", "0 shape 0 rule 0"),
+    ("table FF", "0 shape 0 rule 0"),
     # W-210: what contains 0A is "still read as before, marked as retired"; the sequence numbers 0 and 255
     ("request 04 00 0A 00 00 00 00 0E", "0 sequence 0 command 0A arguments 00 00 00 00 nothing retired"),
     ("request 04 FF 0A 00 00 00 00 F1", "0 sequence 255 command 0A arguments 00 00 00 00 nothing retired"),
@@ -624,6 +668,11 @@ QUERIES = {0x01, 0x09, 0x0A, 0x0B, 0x0C, 0x1A, 0x1B, 0x1C, 0x1D, 0x20, 0x32, 0x3
 # The requests that source 002 prints, by the number that reading gives: as printed, and with the sum put right. The one with 4 is DALI_COLOUR.
 PRINTED_REQUESTS = {"0": 26, "3": 44, "4": 1, "6": 6}
 MENDED_REQUESTS = {"0": 32, "3": 44, "4": 1}
+
+# Source 002's list of commands: how many it has, the one whose frame is not of the type that it says, and the shapes of its types.
+COMMANDS_LISTED = 77
+LISTED_OTHERWISE = [0x40]
+LISTED_SHAPES = {"Basic": 1, "DALI Colour": 3}
 
 # The events that source 002 prints, in the layout of its table: document 01 keeps to the table.
 PRINTED_EVENTS = ["5", "4", "5", "4", "5"]
@@ -1043,6 +1092,53 @@ class SelfTest(unittest.TestCase):
         self.assertEqual((len(known), len(QUERIES), len(known - QUERIES)), (33, 18, 15))
         # "only commands that query": so the source's names say too
         self.assertEqual({command for command, name in opinion.COMMAND_NAMES.items() if "QUERY" in name}, QUERIES)
+
+    def test_table_of_commands(self):
+        bench = opinion.Bench()
+        entries, words = [], []
+        for command in range(256):
+            known, shape, entry = (bench.answer(cases.call(name, [command]).encode("ascii")).split() for name in ["known", "shape", "table"])
+            self.assertEqual((entry[:2], entry[3]), (["0", "shape"], "rule"))
+            self.assertEqual(int(entry[2]), ["unknown", "basic", "unicast", "colour"].index(shape[1]))
+            self.assertEqual(entry[2] == "0", known[1] == "unknown")
+            entries.append((int(entry[2]), int(entry[4])))
+            words.append(shape[2:])
+        self.assertEqual(sum(entry != (0, 0) for entry in entries), 33)
+        self.assertEqual({rule for _, rule in entries}, set(range(18)))
+        # a rule is one shape's; of basic commands, the call `shape` has a word for it
+        self.assertEqual(set(entries), {(0, 0), (2, 16), (3, 17)} | {(1, rule) for rule in range(1, 16)})
+        basic = [command for command in range(256) if entries[command][0] == 1]
+        for one in basic:
+            for other in basic:
+                self.assertEqual(entries[one][1] == entries[other][1], words[one] == words[other])
+        # the call stands behind `inside`
+        names = list(bench.calls)
+        self.assertEqual(names[names.index("table") - 1], "inside")
+
+    def test_rules_are_told_apart(self):
+        # two basic commands have one rule exactly where the same arguments fit them
+        basic = sorted(opinion.BASIC)
+        tried = {cases.replaced(arguments, place, value) for command in basic for choose in [min, max]
+                 for arguments in cases.good_arguments(command, choose) for place, values in enumerate(cases.PLACE_EDGES) for value in values}
+        fitting = {command: {arguments for arguments in tried if opinion.fits(command, arguments)} for command in basic}
+        for one in basic:
+            for other in basic:
+                self.assertEqual(opinion.table_entry(one) == opinion.table_entry(other), fitting[one] == fitting[other])
+
+    def test_listed_commands(self):
+        listed = cases.listed_commands()
+        names = {command: name for command, name, _ in listed}
+        self.assertEqual((len(listed), len(names), len(set(names.values()))), (COMMANDS_LISTED,) * 3)
+        self.assertEqual({command: names[command] for command in range(256) if opinion.known(command)}, opinion.COMMAND_NAMES)
+        # "The following commands all use the Basic frame type": 40 stands among them
+        known = [(command, frame_type) for command, _, frame_type in listed if opinion.known(command)]
+        self.assertEqual([command for command, frame_type in known if opinion.table_entry(command)[0] != LISTED_SHAPES[frame_type]], LISTED_OTHERWISE)
+        # each has an example under its name, with its number; but that of 06 prints 05
+        with open(cases.FRAMES, encoding="ascii") as file:
+            sections = [line.split("\t")[1] for line in file]
+        printed = [(frame[2], section) for section, frame in zip(sections, cases.printed_frames()) if frame[:1] == b"\x04"]
+        self.assertEqual(sorted(section for _, section in printed), sorted(names.values()))
+        self.assertEqual([request for request in printed if names.get(request[0]) != request[1]], [(0x05, "TRIGGER_SDDP_IDENTIFY")])
 
     def test_quiet_writing(self):
         bench = opinion.Bench()

@@ -230,6 +230,7 @@ fn part(n: usize, s: &[u8]) -> Part {
         0x26 => Part::Device(Device::of(b)),
         0x28 => Part::Inside(profile::inside(b)),
         0x29 => Part::Quiet(quiet_run::passes(s)),
+        0x2A => Part::Entry(table::entry_of(b)),
         _ => Part::Number(Device(b).number()),
     }
 }

@@ -47,6 +47,7 @@ table =
     ∷ row "shape" 0x22_1_001_001_FFF
     ∷ row "fits" 0x23_1_005_005_FFF
     ∷ row "inside" 0x28_1_001_001_FFF
+    ∷ row "table" 0x2A_1_001_001_FFF
     ∷ row "error_name" 0x24_1_001_001_FFF
     ∷ row "event_type" 0x93_1_001_001_FFF
     ∷ row "group_target" 0x25_1_001_001_FFF

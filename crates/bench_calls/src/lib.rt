@@ -28,7 +28,7 @@ pub enum Called {
 // many the second has at most, as digits of one hexadecimal number. FFF is more than a line can name. A third group may
 // have any. The first digit of a call's number is its family: what is answered of it is of one kind. (7 and 8 write into a
 // buffer, which is their last group of two or of three; A gives the data of a datagram.) New calls stand behind those of theirs.
-const ROWS: [usize; 88] = [
+const ROWS: [usize; 89] = [
     // Datagrams
     0x10_1_000_FFF_FFF, // request
     0x70_2_006_006_FFF, // write_basic
@@ -62,6 +62,7 @@ const ROWS: [usize; 88] = [
     0x22_1_001_001_FFF, // shape
     0x23_1_005_005_FFF, // fits
     0x28_1_001_001_FFF, // inside
+    0x2A_1_001_001_FFF, // table
     0x24_1_001_001_FFF, // error_name
     0x93_1_001_001_FFF, // event_type
     0x25_1_001_001_FFF, // group_target
@@ -128,20 +129,20 @@ const ROWS: [usize; 88] = [
 ];
 
 // Their names, in the order of the rows, with a blank between two.
-const NAMES: [u8; 1014] =
+const NAMES: [u8; 1020] =
     *b"request write_basic write_unicast write_colour_xy write_colour_tc write_colour_rgbwaf \
 write_basic_quiet write_unicast_quiet write_colour_xy_quiet write_colour_tc_quiet \
 write_colour_rgbwaf_quiet reply reply_data error_code write_reply event event_data \
 write_event event_two event_two_data write_event_two relay_request relay_reply \
-relay_event relay_event_two sum frame known shape fits inside error_name event_type \
-group_target lights status device device_number name high_first mask count_types \
-lowest_type scenes gear count_gear lowest_gear types filters filter book_fresh book_set \
-ask answer book_show fresh_request hold_request feed_request close_request show_request \
-settle_request item_request fresh_reply hold_reply feed_reply close_reply show_reply \
-settle_reply item_reply quiet capture_set summary_set mark_set capture_empty \
-capture_append capture_append_at capture_run capture_run_at capture_open capture_count \
-capture_prefix capture_record capture_show seasons seasons_begin seasons_part \
-seasons_end help";
+relay_event relay_event_two sum frame known shape fits inside table error_name \
+event_type group_target lights status device device_number name high_first mask \
+count_types lowest_type scenes gear count_gear lowest_gear types filters filter \
+book_fresh book_set ask answer book_show fresh_request hold_request feed_request \
+close_request show_request settle_request item_request fresh_reply hold_reply \
+feed_reply close_reply show_reply settle_reply item_reply quiet capture_set summary_set \
+mark_set capture_empty capture_append capture_append_at capture_run capture_run_at \
+capture_open capture_count capture_prefix capture_record capture_show seasons \
+seasons_begin seasons_part seasons_end help";
 
 // Whether two runs hold the same bytes.
 fn same(s: &[u8], t: &[u8]) -> bool
@@ -182,7 +183,7 @@ fn row_of(name: &[u8]) -> usize
     ensures { λ r. ⌜ r ≡ rowOf (now (name .entry)) ⌝ }
 {
     let k = place(&NAMES, name);
-    if k < 88 { ROWS[k] } else { 0 }
+    if k < 89 { ROWS[k] } else { 0 }
 }
 
 // Whether the groups are those that the row asks for.

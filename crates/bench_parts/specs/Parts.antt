@@ -8,6 +8,7 @@ use Rattle.command.specs.declared.Rule.{Rule}
 use Rattle.command.specs.declared.Rule.the-variants.{Group, Emit, Bare, Timers, GroupScene, Channel, Filter, Query, Gear, Inhibit, Scene, Level, Lights, Address, Status}
 use Rattle.command.specs.declared.Shape.{Shape}
 use Rattle.command.specs.declared.Shape.the-variants.{Unknown, Basic, Unicast, Colour}
+use Rattle.table.specs.declared.Entry.{Entry}
 use Rattle.error.specs.declared.Name.{Name}
 use Rattle.error.specs.declared.Name.the-variants.{Number, Nothing}
 use Rattle.target.specs.declared.OnLine.{OnLine}
@@ -19,7 +20,7 @@ use Rattle.target.specs.declared.Numbered.the-variants.{Own, Refused as number�
 use Rattle.bench_parts.specs.declared.Fit.{Fit}
 use Rattle.bench_parts.specs.declared.Fit.the-variants.{Fits, Outside, NoRule}
 use Rattle.bench_parts.specs.declared.Part.{Part}
-use Rattle.bench_parts.specs.declared.Part.the-variants.{Sum, Known, Shape as a·Shape, Fit as a·Fit, Inside, Quiet, Name as a·Name, OnLine as a·OnLine, Device as a·Device, Number as a·Number}
+use Rattle.bench_parts.specs.declared.Part.the-variants.{Sum, Known, Shape as a·Shape, Fit as a·Fit, Inside, Quiet, Entry as a·Entry, Name as a·Name, OnLine as a·OnLine, Device as a·Device, Number as a·Number}
 
 -- "`known` or `unknown`"
 abbrev pub knownTexts : Bool → List (List ℕ)
@@ -65,6 +66,10 @@ abbrev pub quietTexts : Bool → List (List ℕ)
 quietTexts true = text "0 yes" ∷ []
 quietTexts false = text "0 no" ∷ []
 
+-- "`shape N rule N`"
+abbrev pub entryTexts : Entry → List (List ℕ)
+entryTexts e = text "0 shape " ∷ decimalOf (e .shape) ∷ text " rule " ∷ decimalOf (e .rule) ∷ []
+
 -- "`name N` or `none`"
 abbrev pub nameTexts : Name → List (List ℕ)
 nameTexts (Number n) = text "0 name " ∷ decimalOf n ∷ []
@@ -93,6 +98,7 @@ partTexts (a·Shape s) = shapeTexts s
 partTexts (a·Fit f) = fitTexts f
 partTexts (Inside b) = insideTexts b
 partTexts (Quiet b) = quietTexts b
+partTexts (a·Entry e) = entryTexts e
 partTexts (a·Name n) = nameTexts n
 partTexts (a·OnLine t) = lineTexts t
 partTexts (a·Device d) = deviceTexts d

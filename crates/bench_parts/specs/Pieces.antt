@@ -10,6 +10,7 @@ use Rattle.command.specs.declared.Rule.{Rule}
 use Rattle.command.specs.declared.Rule.the-variants.{Group, Emit, Bare, Timers, GroupScene, Channel, Filter, Query, Gear, Inhibit, Scene, Level, Lights, Address, Status}
 use Rattle.command.specs.declared.Shape.{Shape}
 use Rattle.command.specs.declared.Shape.the-variants.{Unknown, Basic, Unicast, Colour}
+use Rattle.table.specs.declared.Entry.{Entry}
 use Rattle.error.specs.declared.Name.{Name}
 use Rattle.error.specs.declared.Name.the-variants.{Number, Nothing}
 use Rattle.target.specs.declared.OnLine.{OnLine}
@@ -21,11 +22,11 @@ use Rattle.target.specs.declared.Numbered.the-variants.{Own, Refused as number�
 use Rattle.bench_parts.specs.declared.Fit.{Fit}
 use Rattle.bench_parts.specs.declared.Fit.the-variants.{Fits, Outside, NoRule}
 use Rattle.bench_parts.specs.declared.Part.{Part}
-use Rattle.bench_parts.specs.declared.Part.the-variants.{Sum, Known, Shape as a·Shape, Fit as a·Fit, Inside, Quiet, Name as a·Name, OnLine as a·OnLine, Device as a·Device, Number as a·Number}
-use Rattle.bench_parts.specs.Parts.{knownTexts, ruleTexts, shapeTexts, fitTexts, insideTexts, quietTexts, nameTexts, lineTexts, deviceTexts, numberTexts, partTexts}
+use Rattle.bench_parts.specs.declared.Part.the-variants.{Sum, Known, Shape as a·Shape, Fit as a·Fit, Inside, Quiet, Entry as a·Entry, Name as a·Name, OnLine as a·OnLine, Device as a·Device, Number as a·Number}
+use Rattle.bench_parts.specs.Parts.{knownTexts, ruleTexts, shapeTexts, fitTexts, insideTexts, quietTexts, entryTexts, nameTexts, lineTexts, deviceTexts, numberTexts, partTexts}
 
 abbrev pub names : List ℕ
-names = text "0 sum ,0 known,0 unknown,0 unicast,0 basic group,0 basic emit,0 basic bare,0 basic timers,0 basic group_scene,0 basic channel,0 basic filter,0 basic query,0 basic gear,0 basic inhibit,0 basic scene,0 basic level,0 basic lights,0 basic address,0 basic status,0 fits,0 outside,0 no rule,0 name ,0 none,0 target ,0 device ,0 number ,0 colour,0 inside,0 yes,0 no"
+names = text "0 sum ,0 known,0 unknown,0 unicast,0 basic group,0 basic emit,0 basic bare,0 basic timers,0 basic group_scene,0 basic channel,0 basic filter,0 basic query,0 basic gear,0 basic inhibit,0 basic scene,0 basic level,0 basic lights,0 basic address,0 basic status,0 fits,0 outside,0 no rule,0 name ,0 none,0 target ,0 device ,0 number ,0 colour,0 inside,0 yes,0 no,0 shape , rule "
 
 abbrev pub knownKind : Bool → ℕ
 knownKind true = 0x11
@@ -67,6 +68,9 @@ abbrev pub quietKind : Bool → ℕ
 quietKind true = 0x1D1
 quietKind false = 0x1E1
 
+abbrev pub entryPieces : Entry → Pieces
+entryPieces e = three 0x1F2 (e .shape) 0x202 (e .rule) 0 0
+
 abbrev pub namePieces : Name → Pieces
 namePieces (Number n) = three 0x162 n 0 0 0 0
 namePieces Nothing = three 0x171 0 0 0 0 0
@@ -90,6 +94,7 @@ partPieces (a·Shape s) = three (shapeKind s) 0 0 0 0 0
 partPieces (a·Fit f) = three (fitKind f) 0 0 0 0 0
 partPieces (Inside b) = three (insideKind b) 0 0 0 0 0
 partPieces (Quiet b) = three (quietKind b) 0 0 0 0 0
+partPieces (a·Entry e) = entryPieces e
 partPieces (a·Name n) = namePieces n
 partPieces (a·OnLine t) = linePieces t
 partPieces (a·Device d) = devicePieces d
@@ -141,6 +146,10 @@ unfolding before wordIn
 quiet-said true = refl
 quiet-said false = refl
 
+entry-said : (e : Entry) → piecesTexts names (entryPieces e) ≡ entryTexts e
+unfolding before wordIn
+entry-said e = refl
+
 name-said : (n : Name) → piecesTexts names (namePieces n) ≡ nameTexts n
 unfolding before wordIn
 name-said (Number n) = refl
@@ -169,6 +178,7 @@ part-said (a·Shape s) = shape-said s
 part-said (a·Fit f) = fit-said f
 part-said (Inside b) = inside-said b
 part-said (Quiet b) = quiet-said b
+part-said (a·Entry e) = entry-said e
 part-said (a·Name n) = name-said n
 part-said (a·OnLine t) = line-said t
 part-said (a·Device d) = device-said d

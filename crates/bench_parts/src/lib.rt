@@ -1,13 +1,14 @@
 // Parts of datagrams, and whether a run passes, as the bench's answers. docs/BENCH.md, "Parts of datagrams" and "Lines". It leans on crate bench_say, and on crates
-// command, error and target for what is said.
+// command, table, error and target for what is said.
 ghost use mathlib.Core.Path.{_≡_};
 ghost use Rattle.lent.specs.All.{PutsAll};
 ghost use Rattle.bench_parts.specs.Parts.{partTexts};
-ghost use Rattle.bench_parts.specs.Pieces.{knownKind, ruleKind, shapeKind, fitKind, insideKind, quietKind, namePieces, linePieces, devicePieces, numberPieces, partPieces};
+ghost use Rattle.bench_parts.specs.Pieces.{knownKind, ruleKind, shapeKind, fitKind, insideKind, quietKind, entryPieces, namePieces, linePieces, devicePieces, numberPieces, partPieces};
 use bench_say::Pieces;
 use command::Rule;
 use command::Shape;
 use error::Name;
+use table::Entry;
 use target::Addressed;
 use target::Numbered;
 use target::OnLine;
@@ -27,6 +28,7 @@ pub enum Part {
     Fit(Fit),
     Inside(bool),
     Quiet(bool),
+    Entry(Entry),
     Name(Name),
     OnLine(OnLine),
     Device(Addressed),
@@ -100,6 +102,13 @@ fn quiet(yes: bool) -> usize
     if yes { 0x1D1 } else { 0x1E1 }
 }
 
+// The entry of a command in the table.
+fn entry(e: Entry) -> Pieces
+    ensures { λ r. ⌜ r ≡ entryPieces e ⌝ }
+{
+    Pieces(0x1F2, e.shape as u64, 0x202, e.rule as u64, 0, 0, 0)
+}
+
 // The number of an error code's name.
 fn name(n: Name) -> Pieces
     ensures { λ r. ⌜ r ≡ namePieces n ⌝ }
@@ -150,6 +159,7 @@ fn answer(p: Part) -> Pieces
         Part::Fit(f) => Pieces(fits(f), 0, 0, 0, 0, 0, 0),
         Part::Inside(yes) => Pieces(inside(yes), 0, 0, 0, 0, 0, 0),
         Part::Quiet(yes) => Pieces(quiet(yes), 0, 0, 0, 0, 0, 0),
+        Part::Entry(e) => entry(e),
         Part::Name(n) => name(n),
         Part::OnLine(t) => on_line(t),
         Part::Device(d) => device(d),
@@ -168,7 +178,7 @@ pub fn say(out: &mut [u8], at: usize, p: Part) -> usize
 0 basic timers,0 basic group_scene,0 basic channel,0 basic filter,0 basic query,\
 0 basic gear,0 basic inhibit,0 basic scene,0 basic level,0 basic lights,0 basic address,\
 0 basic status,0 fits,0 outside,0 no rule,0 name ,0 none,0 target ,0 device ,0 number ,\
-0 colour,0 inside,0 yes,0 no",
+0 colour,0 inside,0 yes,0 no,0 shape , rule ",
         answer(p),
     )
 }

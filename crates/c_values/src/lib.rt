@@ -1,15 +1,17 @@
-// Reply data, targets, books and readers of lines as programs in C have them: the structs that crate wickanchor takes and hands over, laid
-// out as C does, and what turns the answers of crates maps, filters, target, book, line, reader and quiet_run into them, and books and readers back.
+// Reply data, targets, entries of the table of commands, books and readers of lines as programs in C have them: the structs that crate wickanchor
+// takes and hands over, laid out as C does, and what turns the answers of crates maps, filters, target, table, book, line, reader and quiet_run into them,
+// and books and readers back.
 // A refusal is its number by document 01, 0 stands for none, and every other field of a refused call is 0, but for a book. Each contract is
 // an equation over what the answer says.
 ghost use mathlib.Core.Path.{_≡_};
 ghost use Rattle.target.specs.Target.{saidLine, saidDevice, saidNumber};
 ghost use Rattle.maps.specs.Said.{said16, said32, said64, saidLowest};
 ghost use Rattle.filters.specs.Filters.{saidFilters, saidEntry};
+ghost use Rattle.table.specs.Table.{numbersAt};
 ghost use Rattle.book.specs.Book.{saidGiven, saidFreed};
 ghost use Rattle.line.specs.Said.{saidAt};
 ghost use Rattle.quiet_run.specs.Scan.{saidFirst};
-ghost use Rattle.c_values.specs.Numbers.{numberOut, lineOut, deviceOut};
+ghost use Rattle.c_values.specs.Numbers.{numberOut, lineOut, deviceOut, entryOut};
 ghost use Rattle.c_values.specs.Filters.{filtersOut, filterOut};
 ghost use Rattle.c_values.specs.Books.{bookIn, bookOut, bookedBy};
 ghost use Rattle.c_values.specs.Lines.{lineBy, readerIn, readerOut, givenOut, positionOut, quietOut};
@@ -28,6 +30,7 @@ use maps::Map64;
 use reader::Given;
 use reader::Got;
 use reader::Held;
+use table::Entry;
 use target::Addressed;
 use target::Numbered;
 use target::OnLine;
@@ -54,6 +57,13 @@ pub struct WickFilter {
     pub address: u8,
     pub instance: u8,
     pub mask: u16,
+}
+
+// An entry of the table of commands: the number of a frame's shape, and that of its argument rule.
+#[repr(C)]
+pub struct WickEntry {
+    pub shape: u8,
+    pub rule: u8,
 }
 
 // A book of unanswered requests: the command asked under each sequence number, and the last number given.
@@ -167,6 +177,16 @@ pub fn lowest_out(m: Lowest) -> WickNumber
             refusal: k,
             number: 0,
         },
+    }
+}
+
+// An entry of the table of commands.
+pub fn entry_out(e: Entry) -> WickEntry
+    ensures { λ w. ⌜ w ≡ entryOut (numbersAt e) ⌝ }
+{
+    WickEntry {
+        shape: e.shape,
+        rule: e.rule,
     }
 }
 

@@ -11,7 +11,7 @@ ghost use Rattle.refusal.specs.Test.{flag};
 ghost use Rattle.sum.specs.Sum.{sumOf};
 ghost use Rattle.frame.specs.Relay.{relayed};
 ghost use Rattle.target.specs.Target.{lightsOf, statusOf, lineOf, deviceOf, deviceNumber};
-ghost use Rattle.command.specs.Command.{isKnown};
+ghost use Rattle.command.specs.Command.{isKnown, numbersIn};
 ghost use Rattle.command.specs.Colours.{xyType, tcType, rgbwafType};
 ghost use Rattle.profile.specs.declared.Profile.the-variants.{Open, Quiet};
 ghost use Rattle.profile.specs.Profile.{isInside};
@@ -40,7 +40,7 @@ ghost use Rattle.c_datagrams.specs.Written.{WrittenOut};
 ghost use Rattle.c_datagrams.specs.Requests.{aimOut, requestOut, addressIn};
 ghost use Rattle.c_datagrams.specs.Replies.{replyOut, nameNo, codeOut};
 ghost use Rattle.c_datagrams.specs.Events.{eventOut, macIn};
-ghost use Rattle.c_values.specs.Numbers.{numberOut, lineOut, deviceOut};
+ghost use Rattle.c_values.specs.Numbers.{numberOut, lineOut, deviceOut, entryOut};
 ghost use Rattle.c_values.specs.Filters.{filtersOut, filterOut};
 ghost use Rattle.c_values.specs.Books.{bookIn, bookOut, askedOut, repliedOut};
 ghost use Rattle.c_values.specs.Lines.{lineBy, readerIn, readerOut, fedOut, closedOut, positionOut, quietOut};
@@ -71,6 +71,7 @@ use c_seasons::WickSeasons;
 use c_seasons::WickSeasonsState;
 use c_values::WickBook;
 use c_values::WickBooked;
+use c_values::WickEntry;
 use c_values::WickFilter;
 use c_values::WickFilters;
 use c_values::WickGiven;
@@ -108,6 +109,14 @@ pub extern "C" fn wick_inside(command: u8) -> u8
     ensures { λ r. ⌜ r ≡ flag (isInside command) ⌝ }
 {
     profile::inside(command) as u8
+}
+
+// The entry of a command in the table of commands.
+#[no_mangle]
+pub extern "C" fn wick_table(command: u8) -> WickEntry
+    ensures { λ w. ⌜ w ≡ entryOut (numbersIn command) ⌝ }
+{
+    c_values::entry_out(table::entry_of(command))
 }
 
 // Reads a request datagram.

@@ -38,23 +38,29 @@ quiet-requires c κs = search needs
 enum-known-p-7 : tie.Need-enum-known-p-7
 enum-known-p-7 c = search needs
 
-name-requires : tie.Need-name-requires
-name-requires c κs = search needs
+entry-requires : tie.Need-entry-requires
+entry-requires c κs = search needs
 
 enum-known-p-8 : tie.Need-enum-known-p-8
 enum-known-p-8 c = search needs
 
-on-line-requires : tie.Need-on-line-requires
-on-line-requires c κs = search needs
+name-requires : tie.Need-name-requires
+name-requires c κs = search needs
 
 enum-known-p-9 : tie.Need-enum-known-p-9
 enum-known-p-9 c = search needs
 
-device-requires : tie.Need-device-requires
-device-requires c κs = search needs
+on-line-requires : tie.Need-on-line-requires
+on-line-requires c κs = search needs
 
 enum-known-p-10 : tie.Need-enum-known-p-10
 enum-known-p-10 c = search needs
+
+device-requires : tie.Need-device-requires
+device-requires c κs = search needs
+
+enum-known-p-11 : tie.Need-enum-known-p-11
+enum-known-p-11 c = search needs
 
 number-requires : tie.Need-number-requires
 number-requires c κs = search needs
@@ -78,7 +84,7 @@ returns-6 : tie.Need-returns-6
 returns-6 c = rw (c .before .before .p6 .given .1, ← c .quiet .ensures)
 
 returns-7 : tie.Need-returns-7
-returns-7 c = search needs
+returns-7 c = rw (c .before .before .p7 .given .1) (c .entry .ensures)
 
 returns-8 : tie.Need-returns-8
 returns-8 c = search needs
@@ -88,6 +94,9 @@ returns-9 c = search needs
 
 returns-10 : tie.Need-returns-10
 returns-10 c = search needs
+
+returns-11 : tie.Need-returns-11
+returns-11 c = search needs
 
 pub answer-spec : {M : Type 1} → statement M
 answer-spec =
@@ -105,12 +114,14 @@ answer-spec =
     enum-known-p-6
     quiet-requires
     enum-known-p-7
-    name-requires
+    entry-requires
     enum-known-p-8
-    on-line-requires
+    name-requires
     enum-known-p-9
-    device-requires
+    on-line-requires
     enum-known-p-10
+    device-requires
+    enum-known-p-11
     number-requires
     returns
     returns-2
@@ -121,4 +132,5 @@ answer-spec =
     returns-7
     returns-8
     returns-9
-    returns-10)
+    returns-10
+    returns-11)
