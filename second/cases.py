@@ -7,6 +7,8 @@
 
 import os
 import sys
+from collections import namedtuple
+from itertools import combinations
 
 import opinion
 
@@ -3634,10 +3636,192 @@ TABLE_CALLS_SET_OTHERWISE = [
 
 
 def no_table_calls():
-    """Lines that are no call, between what the run carries; the last line of all is the last row of document 01's table, and has no line feed."""
+    """Lines that are no call, between what the run carries; the last of them is the last row of document 01's table."""
     yield from ["fresh_request", "feed_request 04 00 0A", "book_fresh", ask(0x41)]
     yield from TABLE_NO_CALLS + ["show_request", "book_show"] + ["close_request"] * 4 + TABLE_CALLS_SET_OTHERWISE
     yield table(0xAB)
+
+
+# W-211: what a changed byte can do
+
+# The frames whose bytes are changed, all accepted: one of each known command, and of 0E one of each colour type; one of each type of replies; one of
+# each named type of events and one of another, in each layout. What is not bound to be 0 is not 0, so that fields are told apart, but in the reply
+# without data, which is document 01's. Two frames of one call and one length differ in three bytes or more: no change of one byte makes the same
+# datagram of both.
+
+# By command; the sequence numbers rise in steps of 7.
+BASIC_ARGUMENTS = {
+    0x01: [10, 0, 0, 0],
+    0x08: [0x42, 0, 0, 0],
+    0x09: [0, 0, 0, 0], 0x0A: [0, 0, 0, 0], 0x0B: [0, 0, 0, 0],
+    0x0C: [69, 0, 0, 18],
+    0x1A: [9, 0, 0, 0],
+    0x1B: [13, 7, 0, 0],
+    0x1C: [0, 0, 0, 0], 0x1D: [0, 0, 0, 0],
+    0x20: [0, 2, 1, 0x2C],
+    0x31: [70, 27, 0x01, 0x08],
+    0x32: [103, 42, 0, 21],
+    0x33: [25, 255, 0x20, 0x43],
+    0x34: [43, 0, 0, 0],
+    0x41: [0, 0, 0, 0],
+    0xA0: [75, 0, 0x0E, 0x10],
+    0xA1: [127, 0, 0, 15],
+    0xA2: [255, 0, 0, 254],
+    0xA3: [1, 0, 0, 0], 0xA4: [63, 0, 0, 0], 0xA5: [64, 0, 0, 0], 0xA6: [79, 0, 0, 0], 0xA7: [127, 0, 0, 0], 0xA8: [255, 0, 0, 0], 0xA9: [42, 0, 0, 0],
+    0xAA: [77, 0, 0, 0],
+    0xAB: [81, 0, 0, 0],
+    0xAC: [62, 0, 0, 0],
+    0xAD: [7, 0, 0, 0],
+    0xAE: [72, 0, 0, 0],
+}
+CHANGED_BASIC = {command: basic(0x15 + 7 * place, command, arguments) for place, (command, arguments) in enumerate(BASIC_ARGUMENTS.items())}
+
+CHANGED_UNICAST = unicast(0x05, bytes([0x22, 0x6B, 0xC0, 0xA8, 0x0A, 0x15]))
+
+# By colour type: of a gear, a group and all lights.
+CHANGED_COLOURS = {
+    0x10: colour(0x10, bytes([0x12, 0x34, 0x56, 0x78]), 0x61, 3, 254),
+    0x20: colour(0x20, bytes([0x01, 0x72]), 0x52, 71, 128),
+    0x80: colour(0x80, bytes([0xFF, 0x81, 0x42, 0x23, 0x14, 0x05]), 0x43, 127, 99),
+}
+
+# By type: no data, three bytes, two, and an error code.
+CHANGED_REPLIES = {
+    0xA0: reply(0xA0, 0x00, b""),
+    0xA1: reply(0xA1, 0x2D, bytes([0x07, 0x0F, 0x46])),
+    0xA2: reply(0xA2, 0x81, bytes([0x05, 0xFE])),
+    0xA3: reply(0xA3, 0x11, bytes([0xB1])),
+}
+
+# By type; the targets rise in each of their bytes.
+EVENT_DATA = {
+    0: [5],
+    1: [6, 1],
+    2: [7, 0x01, 0x2C],
+    3: [],
+    4: [254],
+    5: [12, 2],
+    6: [3],
+    7: [4, 30],
+    8: [0x20, 0x01, 0x72, 0x99],
+    9: [1, 15],
+    200: [],
+}
+
+
+def changed_events(first, step, width):
+    """The events of one layout, by type."""
+    return {type_: event(first + step * place, type_, bytes(data), width) for place, (type_, data) in enumerate(EVENT_DATA.items())}
+
+
+CHANGED_EVENTS = changed_events(0x0A3B44, 0x010101, 3)
+CHANGED_EVENTS_TWO = changed_events(0x3B44, 0x0101, 2)
+
+# The families, each by a word, in words, with the call that reads its frames.
+Family = namedtuple("Family", "word words call frames")
+
+CHANGED = [
+    Family("basic", "basic requests", "request", list(CHANGED_BASIC.values())),
+    Family("40", "request 40", "request", [CHANGED_UNICAST]),
+    Family("colour", "colour requests", "request", list(CHANGED_COLOURS.values())),
+    Family("reply", "replies", "reply", list(CHANGED_REPLIES.values())),
+    Family("event", "events with three target bytes", "event", list(CHANGED_EVENTS.values())),
+    Family("event_two", "events with two target bytes", "event_two", list(CHANGED_EVENTS_TWO.values())),
+]
+
+
+def single_changes(frame):
+    """The frame with one byte changed: each place, each of its 255 other values."""
+    for place, byte in enumerate(frame):
+        for value in range(256):
+            if value != byte:
+                yield replaced(frame, place, value)
+
+
+def one_byte_changed(name):
+    """Each frame that this call reads, and behind it each of its single changes."""
+    for family in CHANGED:
+        if family.call == name:
+            for frame in family.frames:
+                yield call(name, frame)
+                for datagram in single_changes(frame):
+                    yield call(name, datagram)
+
+
+def turned(frame, places, bits):
+    """The frame with the same bits of several bytes turned."""
+    for place in places:
+        frame = flipped(frame, place, bits)
+    return frame
+
+
+def pairs_of_places(frame):
+    """Each two places of the frame."""
+    return list(combinations(range(len(frame)), 2))
+
+
+def same_bits_turned(frame):
+    """The frame with two bytes changed by the same bits: each two places, all bits."""
+    for pair in pairs_of_places(frame):
+        for bits in range(1, 256):
+            yield turned(frame, pair, bits)
+
+
+def exchanged(frame):
+    """The frame with two bytes exchanged that are not the same: each such pair of places."""
+    for one, other in pairs_of_places(frame):
+        if frame[one] != frame[other]:
+            yield turned(frame, [one, other], frame[one] ^ frame[other])
+
+
+# Each bit, and some at once, which make other known commands and other colour types of those of the frames below.
+SAME_BITS = [0x01, 0x02, 0x04, 0x08, 0x10, 0x20, 0x40, 0x80, 0x03, 0x0F, 0x30, 0x81, 0xA0, 0xFF]
+DIFFERING_BITS = [(0x01, 0x02), (0x80, 0x01), (0x10, 0x30), (0xFF, 0xFE)]
+
+
+def several_changes(frame, places):
+    """The frame with several bytes changed: any two exchanged, and at these places two turned by the same bits and by differing ones, and three
+    and four in one bit. In range and outside it."""
+    yield from exchanged(frame)
+    for pair in combinations(places, 2):
+        for bits in SAME_BITS:
+            yield turned(frame, pair, bits)
+        for first, second in DIFFERING_BITS:
+            yield flipped(flipped(frame, pair[0], first), pair[1], second)
+    for count in [3, 4]:
+        for some in combinations(places, count):
+            for bit in [0x01, 0x10]:
+                yield turned(frame, some, bit)
+
+
+# Two accepted datagrams, by the call that reads them, that differ in two bytes: another sequence number, and the mask of a request 31 with its bytes
+# exchanged, 264 and 2049.
+WORKED_PAIRS = [
+    ("reply", bytes([0xA0, 0x00, 0x00, 0xA0]), bytes([0xA0, 0x01, 0x00, 0xA1])),
+    ("request", bytes([0x04, 0x00, 0x31, 0x00, 0xFF, 0x01, 0x08, 0xC3]), bytes([0x04, 0x00, 0x31, 0x00, 0xFF, 0x08, 0x01, 0xC3])),
+]
+
+# Some of the frames, with the places where several bytes are changed: all of them, but of events some, the type, the length byte and the sum among
+# them. In each layout an event without data and one with an instance.
+SEVERAL_CHANGED = [
+    ("reply", CHANGED_REPLIES[0xA0], range(4)),
+    ("request", CHANGED_BASIC[0x31], range(8)),
+    ("request", CHANGED_COLOURS[0x20], range(9)),
+    ("event", CHANGED_EVENTS[3], [0, 1, 5, 8, 10, 11, 12, 13]),
+    ("event", CHANGED_EVENTS[6], [10, 11, 12, 13, 14]),
+    ("event_two", CHANGED_EVENTS_TWO[3], [9, 10, 11, 12]),
+    ("event_two", CHANGED_EVENTS_TWO[6], [0, 1, 5, 9, 10, 11, 12, 13]),
+]
+
+
+def several_bytes_changed():
+    """The worked pairs; each of these frames, and behind it changes of several bytes, of the reply without data all double changes by the same
+    bits. No line stands here twice."""
+    lines = [call(name, datagram) for name, one, other in WORKED_PAIRS for datagram in [one, other]]
+    for name, frame, places in SEVERAL_CHANGED:
+        changes = list(same_bits_turned(frame)) if frame == CHANGED_REPLIES[0xA0] else []
+        lines += [call(name, datagram) for datagram in [frame] + changes + list(several_changes(frame, places))]
+    yield from dict.fromkeys(lines)
 
 
 KINDS = [
@@ -3672,6 +3856,11 @@ KINDS = [
     ("the quiet profile of runs (W-203)", quiet_runs),
     ("the table of commands (W-209)", table_of_commands),
     ("lines that are no call of the table of commands (W-209)", no_table_calls),
+    ("requests with one byte changed (W-211)", lambda: one_byte_changed("request")),
+    ("replies with one byte changed (W-211)", lambda: one_byte_changed("reply")),
+    ("events with one byte changed (W-211)", lambda: one_byte_changed("event")),
+    ("events of two target bytes with one byte changed (W-211)", lambda: one_byte_changed("event_two")),
+    ("several bytes changed (W-211)", several_bytes_changed),
 ]
 
 

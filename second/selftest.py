@@ -1,16 +1,20 @@
-"""Self-checks of the second program: what the documents state, asked of second/opinion.py, second/sheet.py and second/quiet.py.
+"""Self-checks of the second program: what the documents state, asked of second/opinion.py, second/sheet.py, second/quiet.py and
+second/changes.py.
 
     python3 second/selftest.py
 """
 
 import bisect
+import contextlib
 import datetime
+import io
 import os
 import subprocess
 import sys
 import unittest
 
 import cases
+import changes
 import opinion
 import quiet
 import sheet
@@ -541,6 +545,37 @@ STATED_LATER = [
     ("name 00 11 / 00 00 00 00 00 00", "8 before 00 00 00 00 00 00 after 00 00 00 00 00 00"),
     ("name 00 12 /", "7 before after"),
     ("name 00 17 /", "7 before after"),
+    # W-211: "take an accepted datagram and change exactly one byte to another value, and the result is refused"
+    ("reply A0 00 00 A0", "0 type A0 sequence 0 n 0"),
+    ("reply A4 00 00 A0", "2"),
+    ("reply A1 00 00 A0", "6"),
+    ("reply A0 01 00 A0", "6"),
+    ("reply A0 00 41 A0", "4"),
+    ("reply A0 00 01 A0", "5"),
+    ("reply A0 00 00 A1", "6"),
+    # "with a worked pair, that two changed bytes may pass"; other two do not
+    ("reply A0 01 00 A1", "0 type A0 sequence 1 n 0"),
+    ("reply A0 01 00 A2", "6"),
+    ("reply A0 00 01 A1", "5"),
+    # the mask bytes exchanged: a slip that the sum lets pass
+    ("request 04 00 31 00 FF 01 08 C3", "0 sequence 0 command 31 arguments 00 FF 01 08 address 0 instance 255 mask 264"),
+    ("request 04 00 31 00 FF 08 08 C3", "6"),
+    ("request 04 00 31 00 FF 01 01 C3", "6"),
+    ("request 04 00 31 00 FF 08 01 C3", "0 sequence 0 command 31 arguments 00 FF 08 01 address 0 instance 255 mask 2049"),
+    ("request 04 00 31 40 FF 01 48 C3", "7"),
+    # a colour request: the colour data exchanged, and another colour type
+    ("request 04 00 0E 7F FE 20 01 72 D8", "0 sequence 0 command 0E target 127 broadcast level 254 tc 370"),
+    ("request 04 00 0E 7F FE 20 72 72 D8", "6"),
+    ("request 04 00 0E 7F FE 20 72 01 D8", "0 sequence 0 command 0E target 127 broadcast level 254 tc 29185"),
+    ("request 04 00 0E 7F FE 10 01 72 D8", "5"),
+    ("request 04 00 0E 7F FE 10 01 72 E8", "5"),
+    # "in both event layouts": the type and the sum
+    ("event 5A 43 7C BA CC 2F 40 2E 00 00 3B 04 00 6A", "6"),
+    ("event 5A 43 7C BA CC 2F 40 2E 00 00 3B 04 00 6D", "0 mac 7C BA CC 2F 40 2E target 59 type 4 GROUP_LEVEL_CHANGE n 0 instance absent"),
+    ("event 5A 43 7C BA CC 2F 40 2E 00 00 3B 02 00 6B", "7"),
+    ("event_two 5A 43 7C BA CC 2F 40 2E 00 3B 04 00 6A", "6"),
+    ("event_two 5A 43 7C BA CC 2F 40 2E 00 3B 04 00 6D", "0 mac 7C BA CC 2F 40 2E target 59 type 4 GROUP_LEVEL_CHANGE n 0 instance absent"),
+    ("event_two 5A 43 7C BA CC 2F 40 2E 00 3B 02 00 6B", "7"),
     # W-213: "occupied events (type 6), button presses (0), holds (1)"; gaps of 4 and 7 in the first season, none with two in the others
     (capture_of(9, record_at(1, OCCUPIED) + record_at(2, PRESS) + record_at(5, OCCUPIED) + record_at(5, HOLD) + record_at(6, UNOCCUPIED)
                 + record_at(12, OCCUPIED) + record_at(33, HOLD) + record_at(33, HOLD) + record_at(60, OCCUPIED)), "0"),
@@ -665,6 +700,27 @@ STATED_LINES = [
 # The commands inside the quiet profile: those of document 01's table but 08, 31, 33, 40 and A0 to A9.
 QUERIES = {0x01, 0x09, 0x0A, 0x0B, 0x0C, 0x1A, 0x1B, 0x1C, 0x1D, 0x20, 0x32, 0x34, 0x41, 0xAA, 0xAB, 0xAC, 0xAD, 0xAE}
 
+# What a change of one byte may be refused with, by the call: the length stays, so no 1, and the exclusive-or is not 0, so 6 where nothing lower
+# applies, and no 7.
+REFUSED_CHANGES = {"request": {"2", "3", "4", "5", "6"}, "reply": {"2", "4", "5", "6"}, "event": {"2", "4", "5", "6"}, "event_two": {"2", "4", "5", "6"}}
+
+# Of the shortest frame of each family, by its word: how many double changes are accepted, counted out by hand. Two places whose bytes may be any:
+# 255. Such a place and one whose byte may be one of k others: k.
+DOUBLES_BY_HAND = {
+    # sequence and sum; one of these and the group (15) or the command (18: 1A, 1B, 34 and A0 to AE); the command and the group (08, 0B and 34), C
+    # (A0) or D (A0 and A2)
+    "basic": 255 + 2 * 15 + 2 * 18 + 3 + 1 + 2,
+    # any two of sequence, port, address and sum
+    "40": 28 * 255,
+    # any two of sequence, level, colour data and sum, or one of these and the address (81)
+    "colour": 10 * 255 + 5 * 81,
+    # sequence and sum; one of these and the type (3)
+    "reply": 255 + 2 * 3,
+    # any two of MAC, target and sum, or one of these and the type (all others but the five that need data)
+    "event": 45 * 255 + 10 * 250,
+    "event_two": 36 * 255 + 9 * 250,
+}
+
 # The requests that source 002 prints, by the number that reading gives: as printed, and with the sum put right. The one with 4 is DALI_COLOUR.
 PRINTED_REQUESTS = {"0": 26, "3": 44, "4": 1, "6": 6}
 MENDED_REQUESTS = {"0": 32, "3": 44, "4": 1}
@@ -714,6 +770,17 @@ def read_as_request(datagram):
         return bool(opinion.read_request(datagram))
     except opinion.Refusal:
         return False
+
+
+def places_that_differ(one, other):
+    """How many places two datagrams of one length differ in."""
+    assert len(one) == len(other)
+    return sum(first != second for first, second in zip(one, other))
+
+
+def frames_read_by(name):
+    """The frames that are changed and that this call reads."""
+    return [frame for family in cases.CHANGED if family.call == name for frame in family.frames]
 
 
 def quiet_in_eights(run):
@@ -1207,6 +1274,114 @@ class SelfTest(unittest.TestCase):
         self.assertTrue(opinion.is_quiet(cases.QUIET_RUN[:-8]))
         self.assertEqual({cases.QUIET_RUN[place + 2] for place in range(0, 21 * 8, 8)}, QUERIES)
         self.assertEqual(quiet.line_of(cases.QUIET_RUN), "no: item 0 at byte 168, 0415A14F00000FF0: command A1 is outside the profile\n")
+
+    def test_frames_that_are_changed(self):
+        frames = {family.word: family.frames for family in cases.CHANGED}
+        self.assertEqual([frame[2] for frame in frames["basic"]], sorted(opinion.BASIC))
+        self.assertEqual([frame[2] for frame in frames["40"]], [0x40])
+        self.assertEqual([(frame[2], frame[5]) for frame in frames["colour"]], [(0x0E, type_) for type_ in cases.LISTED_TYPES])
+        bare = [frame[2] for frame in frames["basic"] if not any(frame[3:7])]
+        self.assertEqual(bare, [command for command in sorted(opinion.BASIC) if opinion.BASIC[command] == "bare"])
+        self.assertEqual([frame[0] for frame in frames["reply"]], [0xA0, 0xA1, 0xA2, 0xA3])
+        self.assertEqual(sorted(frame[2] for frame in frames["reply"]), [0, 1, 2, 3])
+        self.assertIn(opinion.error_code(opinion.read_reply(frames["reply"][3])), opinion.ERROR_CODES)
+        for word, place in [("event", 11), ("event_two", 10)]:
+            types, sizes = [frame[place] for frame in frames[word]], {frame[place + 1] for frame in frames[word]}
+            self.assertEqual((types[:10], len(types)), (list(range(10)), 11))
+            self.assertGreater(types[10], 9)
+            self.assertEqual(sizes & {0, 1, 2}, {0, 1, 2})
+            self.assertGreater(max(sizes), 2)
+        # three bytes apart or more, so that no line of theirs comes twice
+        for name in changes.READERS:
+            own = frames_read_by(name)
+            for one in own:
+                near = [other for other in own if other is not one and len(other) == len(one) and places_that_differ(one, other) < 3]
+                self.assertFalse(near, "%s %s is near to another frame" % (name, opinion.text([one])))
+
+    def test_one_changed_byte(self):
+        bench = opinion.Bench()
+        for name, allowed in REFUSED_CHANGES.items():
+            lines, seen = iter(cases.one_byte_changed(name)), set()
+            for frame in frames_read_by(name):
+                line = next(lines)
+                self.assertEqual(line, cases.call(name, frame))
+                self.assertEqual(bench.answer(line.encode("ascii"))[:2], "0 ", line + " is not accepted")
+                given = [next(lines) for _ in range(255 * len(frame))]
+                self.assertEqual(len(set(given)), len(given))
+                for line in given:
+                    datagram, answer = bytes.fromhex(line[len(name) + 1:]), bench.answer(line.encode("ascii"))
+                    if places_that_differ(datagram, frame) != 1:
+                        self.fail("%s is no single change of %s" % (line, opinion.text([frame])))
+                    if answer not in allowed:
+                        self.fail("%s, changed in one byte from %s, gives %s" % (line, opinion.text([frame]), answer))
+                    seen.add(answer)
+            self.assertEqual((list(lines), seen), ([], allowed))
+
+    def test_two_changed_bytes(self):
+        bench = opinion.Bench()
+        given = list(cases.several_bytes_changed())
+        for name, one, other in cases.WORKED_PAIRS:
+            self.assertEqual(places_that_differ(one, other), 2)
+            answers = []
+            for datagram in [one, other]:
+                line = cases.call(name, datagram)
+                self.assertIn(line, given)
+                answers.append(bench.answer(line.encode("ascii")))
+                self.assertEqual(answers[-1][:2], "0 ", line + " is not accepted")
+            self.assertNotEqual(*answers)
+        (_, *replies), (_, *requests) = cases.WORKED_PAIRS
+        self.assertEqual(replies, [bytes.fromhex("A00000A0"), bytes.fromhex("A00100A1")])
+        self.assertEqual([request[:5] + request[6:4:-1] + request[7:] for request in requests], requests[::-1])
+        # of the frame that is changed too: another mask, and all else as it was
+        frame = cases.CHANGED_BASIC[0x31]
+        exchanged = frame[:5] + frame[6:4:-1] + frame[7:]
+        self.assertIn(cases.call("request", exchanged), given)
+        one, other = opinion.read_request(frame), opinion.read_request(exchanged)
+        self.assertEqual(other, one._replace(arguments=one.arguments[:2] + one.arguments[:1:-1]))
+        self.assertNotEqual(other.arguments, one.arguments)
+
+    def test_several_changed_bytes(self):
+        bench = opinion.Bench()
+        given = list(cases.several_bytes_changed())
+        self.assertEqual(len(set(given)), len(given))
+        self.assertLess(len(given), 6000)
+        single = {line for name in changes.READERS for line in cases.one_byte_changed(name)}
+        self.assertEqual(single & set(given), {cases.call(name, frame) for name, frame, _ in cases.SEVERAL_CHANGED})
+        seen = {name: set() for name in changes.READERS}
+        for line in given:
+            name, _, datagram = line.partition(" ")
+            number = bench.answer(line.encode("ascii")).split(" ")[0]
+            if opinion.exclusive_or(bytes.fromhex(datagram)) != 0:
+                self.assertIn(number, REFUSED_CHANGES[name], line)
+            else:
+                self.assertIn(number, REFUSED_CHANGES[name] - {"6"} | {"0", "7"}, line)
+            seen[name].add(number)
+        # of all numbers there are some; a reply has nothing that 7 is about
+        self.assertEqual(seen, {name: allowed | {"0"} | ({"7"} if name != "reply" else set()) for name, allowed in REFUSED_CHANGES.items()})
+
+    def test_double_changes_counted(self):
+        for family in cases.CHANGED:
+            frame = min(family.frames, key=len)
+            self.assertEqual(changes.doubles_accepted(family.call, frame), DOUBLES_BY_HAND[family.word], opinion.text([frame]))
+        # the quick count against every one tried
+        frame = cases.CHANGED_REPLIES[0xA0]
+        quick = changes.doubles_of(frame), changes.doubles_accepted("reply", frame)
+        self.assertEqual(changes.every_double_tried("reply", frame), quick)
+        self.assertEqual(quick, (390150, 261))
+
+    def test_shares_of_changes(self):
+        self.assertEqual([changes.share(*given) for given in [(0, 5), (5, 5), (2, 5), (261, 390150), (1, 2000000), (1, 200000), (1, 200001)]],
+                         ["none", "1 in 1 (100.000%)", "1 in 3 (40.000%)", "1 in 1,495 (0.067%)", "1 in 2,000,000 (0.000%)", "1 in 200,000 (0.001%)",
+                          "1 in 200,001 (0.000%)"])
+
+    def test_arguments_of_changes(self):
+        for words, status in [(["--help"], 0), (["one"], 2), ([""], 2), (["all"], 2), (["all", "one"], 2), (["all", "reply", "event"], 2), (["a\nb"], 2)]:
+            with contextlib.redirect_stdout(io.StringIO()) as out, contextlib.redirect_stderr(io.StringIO()) as said:
+                self.assertEqual(changes.main(words), status)
+            if status == 0:
+                self.assertEqual((out.getvalue(), said.getvalue()), (changes.HELP, ""))
+            else:
+                self.assertEqual((out.getvalue(), said.getvalue().count("\n")), ("", 1))
 
     def test_appends_by_the_letter_and_by_marks(self):
         for version, size, appends in runs_of_appends(cases.Chance(8)):

@@ -1,7 +1,6 @@
 -- Parts that are led by their length. Document 02, W-207: "a two-byte length first .. all big-endian. The length counts what follows it";
 -- refusal 15: "cut short". W-208: "a run of event datagrams, each led by a two-byte big-endian length".
 use Prim.Native.Nat.{ℕ, zero, suc, _+_}
-use mathlib.Core.Bool.{Bool, true, false}
 use mathlib.Core.List.{List, [], _∷_}
 use lib.ListN.{length, take, drop}
 use lib.Dec.{leb, eqb}
@@ -52,8 +51,3 @@ partsUpTo (suc n) s =
 -- each has a byte, so there are no more than bytes
 abbrev pub partsOf : List ℕ → Answer (List (List ℕ))
 partsOf s = partsUpTo (length s) s
-
--- whether an answer is no refusal
-abbrev pub isFull : {A : Type 0} → Answer A → Bool
-isFull (refused k) = false
-isFull (full x) = true

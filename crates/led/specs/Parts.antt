@@ -9,9 +9,9 @@ use lib.Dec.{eqb}
 use borrow.Author.Tests.{ne-eqb}
 use native.Mathlib.Omega.{arith}
 use Rattle.refusal.specs.Test.{clash}
-use Rattle.refusal.specs.Answer.{Answer, refused, full, full-one}
+use Rattle.refusal.specs.Answer.{Answer, refused, full, isFull, full-one}
 use Rattle.sum.specs.Bytes.{Bytes, bytes-take, bytes-drop}
-use Rattle.led.specs.Led.{partAt, withPart, partsUpTo, partsOf, isFull}
+use Rattle.led.specs.Led.{partAt, withPart, partsUpTo, partsOf}
 use Rattle.led.specs.Cut.{part-there, part-15}
 
 -- what a run begins with: a part, none that is there, or its end

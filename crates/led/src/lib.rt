@@ -3,7 +3,8 @@
 // and W-208.
 ghost use mathlib.Core.Path.{_≡_};
 ghost use lib.ListN.{drop};
-ghost use Rattle.led.specs.Led.{saidPart, partAt, partsOf, isFull};
+ghost use Rattle.refusal.specs.Answer.{isFull};
+ghost use Rattle.led.specs.Led.{saidPart, partAt, partsOf};
 
 // How many bytes the length itself takes.
 pub const LEAD: usize = 2;

@@ -7,8 +7,8 @@ use lib.ListN.{length, take, drop, length-drop}
 use lib.Seq.{drop-drop}
 use native.Mathlib.Omega.{arith}
 use Rattle.refusal.specs.Test.{clash}
-use Rattle.refusal.specs.Answer.{Answer, refused, full, full-one}
-use Rattle.led.specs.Led.{partAt, withPart, partsOf, isFull}
+use Rattle.refusal.specs.Answer.{Answer, refused, full, isFull, full-one}
+use Rattle.led.specs.Led.{partAt, withPart, partsOf}
 use Rattle.led.specs.Cut.{part-there}
 use Rattle.led.specs.Parts.{parts-end, parts-next, parts-cut}
 use Rattle.summary.specs.declared.Summary.{Summary}

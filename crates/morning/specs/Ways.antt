@@ -6,9 +6,9 @@ use mathlib.Core.List.{List}
 use lib.ListN.{length, take}
 use lib.Seq.{take-length}
 use Rattle.refusal.specs.Test.{clash}
-use Rattle.refusal.specs.Answer.{Answer, refused, full}
+use Rattle.refusal.specs.Answer.{Answer, refused, full, isFull}
 use Rattle.sum.specs.Bytes.{Bytes}
-use Rattle.led.specs.Led.{partsOf, isFull}
+use Rattle.led.specs.Led.{partsOf}
 use Rattle.led.specs.Parts.{parts-15, parts-bytes}
 use Rattle.event.specs.declared.Layout.{Layout}
 use Rattle.summary.specs.declared.Summary.{Summary}

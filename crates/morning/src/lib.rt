@@ -3,9 +3,9 @@
 // Document 02, W-208.
 ghost use mathlib.Core.Path.{_≡_};
 ghost use mathlib.Core.Bool.{true};
-ghost use Rattle.led.specs.Led.{partsOf, isFull};
+ghost use Rattle.led.specs.Led.{partsOf};
 ghost use Rattle.summary.specs.declared.Went.the-variants.{Well};
-ghost use Rattle.refusal.specs.Answer.{refused, full};
+ghost use Rattle.refusal.specs.Answer.{refused, full, isFull};
 ghost use Rattle.morning.specs.Morning.{enteredBy, ran, ranOut, Runs, ranAt, ranAtOut, RunsAt};
 ghost use Rattle.morning.specs.Going.{allOf};
 use capture::Kept;

@@ -9,6 +9,11 @@ pub data Answer (A : Type 0) : Type 0 where
   refused : ℕ → Answer A
   full : A → Answer A
 
+-- whether an answer is no refusal
+abbrev pub isFull : {A : Type 0} → Answer A → Bool
+isFull (refused k) = false
+isFull (full x) = true
+
 -- refusal k unless the test holds. A definition makes its demands in the order of their numbers, so the lowest that applies is given
 abbrev pub demand : {A : Type 0} → Bool → ℕ → Answer A → Answer A
 demand t k x = pick t x (refused k)

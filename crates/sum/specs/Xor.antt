@@ -1,8 +1,11 @@
--- Laws of the exclusive-or of two numbers that the library has not: it may be regrouped, and only equal numbers cancel.
+-- Laws of the exclusive-or of two numbers that the library has not: it may be regrouped, of four in the middle too, and only equal numbers cancel.
 use Prim.Native.Nat.{ℕ, zero, suc, _+_, _/_, _%_, _≤_, _<_}
-use mathlib.Core.Path.{_≡_, refl}
+use mathlib.Core.Path.{_≡_, refl, sym, ap, _∙_}
+use mathlib.Core.Bool.{Bool, true, false}
+use lib.Dec.{eqb}
+use borrow.Author.Tests.{eqb-true, eqb-false, eq-eqb, ne-eqb}
 use native.Mathlib.Omega.{arith}
-use lib.Bits.{bitXor, xor-shr, xor-mod, xor-zero-l, xor-zero-r, xor-add-and, and-le-l, and-le-r}
+use lib.Bits.{bitXor, xor-shr, xor-mod, xor-zero-l, xor-zero-r, xor-comm, xor-self, xor-add-and, and-le-l, and-le-r}
 
 xor-half : (a b : ℕ) → bitXor a b / 2 ≡ bitXor (a / 2) (b / 2)
 xor-half a b = xor-shr a b 1
@@ -42,3 +45,18 @@ xor-assoc a b c = assoc-below (a + b + c) a b c (omega arith) (omega arith) (ome
 
 pub xor-cancel : (a b : ℕ) → bitXor a b ≡ 0 → a ≡ b
 xor-cancel a b e = omega (arith, xor-add-and a b, and-le-l a b, and-le-r a b)
+
+-- of four, the middle two exchanged
+pub xor-medial : (a b c d : ℕ) → bitXor (bitXor a b) (bitXor c d) ≡ bitXor (bitXor a c) (bitXor b d)
+xor-medial a b c d =
+    xor-assoc a b (bitXor c d)
+    ∙ ap (bitXor a) (sym (xor-assoc b c d) ∙ ap (λ (x : ℕ). bitXor x d) (xor-comm b c) ∙ xor-assoc c b d)
+    ∙ sym (xor-assoc a c (bitXor b d))
+
+-- two numbers are equal exactly where theirs is 0
+pub xor-none : (a b : ℕ) → eqb (bitXor a b) 0 ≡ eqb a b
+xor-none a b = go (eqb a b) refl
+  where
+    go : (t : Bool) → eqb a b ≡ t → eqb (bitXor a b) 0 ≡ t
+    go true e = eq-eqb (bitXor a b) 0 (rw (eqb-true a b e) (xor-self b))
+    go false e = ne-eqb (bitXor a b) 0 (λ z. eqb-false a b e (xor-cancel a b z))

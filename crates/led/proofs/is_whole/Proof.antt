@@ -3,8 +3,8 @@ use Prim.Native.Nat.{_+_, _-_, _≤_}
 use mathlib.Core.Path.{_≡_, refl, sym, _∙_}
 use lib.ListN.{length, drop, length-drop}
 use native.Mathlib.Omega.{arith}
-use Rattle.refusal.specs.Answer.{full, told}
-use Rattle.led.specs.Led.{partAt, saidPart, partsOf, isFull}
+use Rattle.refusal.specs.Answer.{full, isFull, told}
+use Rattle.led.specs.Led.{partAt, saidPart, partsOf}
 use Rattle.led.specs.Cut.{part-there}
 use Rattle.led.specs.Parts.{whole-next, whole-end, whole-cut}
 use Rattle.led.proofs.is_whole.Statement.{statement}
