@@ -2,8 +2,10 @@
 
 clean   replies of 0 to 64 data bytes, each with its sum
 noise   bytes without a rule
-worst   a lead at every other place, each with a length of 64 and a sum that fails, so that the reader sums 68 bytes again and again
+long    a lead at every other place, each with a length of 64 and a sum that fails, so that the reader sums 68 bytes again and again
+odd     the same with a length of 59, so that it sums 63
 queries requests for the levels of gear, a run that passes the quiet profile
+lead-NN leads at every other place with a length of NN and a sum that fails, for each NN from 0 to 64; these have only 16,000 bytes
 """
 import pathlib
 import sys
@@ -39,8 +41,21 @@ def noise():
     return bytes(next(source) for _ in range(SIZE))
 
 
-def worst():
+def long():
     return bytes([0xA0, 0xA1, 0x40, 0x40]) * (SIZE // 4)
+
+
+def odd():
+    return bytes([0xA0, 0xA1, 0x3B, 0x3B]) * (SIZE // 4)
+
+
+def leads(n):
+    """Pairs of leads with a pair of lengths behind each. One lead in as many as a frame that begins a pair has is A1, the others A0: so no sum is 0."""
+    stream = bytearray()
+    turn = (n + 4) // 4 * 2 + (n + 4) % 4
+    for i in range(0, 8000, 2):
+        stream += bytes([0xA0 + ((i + j) % turn == 0) for j in range(2)] + [n, n])
+    return bytes(stream)
 
 
 def queries():
@@ -51,5 +66,7 @@ def queries():
 
 
 folder = pathlib.Path(sys.argv[1])
-for make in (clean, noise, worst, queries):
+for make in (clean, noise, long, odd, queries):
     (folder / make.__name__).write_bytes(make())
+for n in range(65):
+    (folder / f'lead-{n:02}').write_bytes(leads(n))

@@ -3824,6 +3824,38 @@ def several_bytes_changed():
     yield from dict.fromkeys(lines)
 
 
+# The sum in words of eight (document 02, W-204)
+
+def one_changed(chance, frame):
+    """The frame, and for each place the frame with one bit there turned and its sum left as it was."""
+    return [frame] + [replaced(frame, place, frame[place] ^ 1 << chance.below(8)) for place in range(len(frame))]
+
+
+def sums_in_words():
+    """Nothing that the sum promises may change. Runs of every length: without a rule, of one value, with one byte alone at every place, so that none
+    can be left out or taken twice; frames of such lengths written; replies and events of every length, as they are and with a bit turned at every place."""
+    chance = Chance(204)
+    lines = []
+    for size in range(161):
+        lines += [call("sum", run) for run in [chance.run(size), chance.run(size), b"\xFF" * size, pattern(size)]]
+    for size in range(73):
+        lines += [call("sum", replaced(bytes(size), place, 1 + chance.below(255))) for place in range(size)]
+    for size in [255, 256, 257, 1023, 1024, 1025, 1363]:
+        run = chance.run(size)
+        lines += [call("sum", changed) for changed in [run, replaced(run, 0, 0), replaced(run, size - 1, 0)]]
+    for size in range(73):
+        run = chance.run(size)
+        for head in sorted({0, min(size, 3), min(size, 8), size // 2, size}):
+            lines += [call("frame", run[:head], run[head:], pattern(room)) for room in [size, size + 1]]
+    for n in range(65):
+        lines += [call("reply", datagram) for datagram in one_changed(chance, reply(0xA0 + n % 4, chance.below(256), chance.run(n)))]
+    for n in range(49):
+        for name, width in [("event", 3), ("event_two", 2)]:
+            frame = event(chance.below(256 ** width), chance.below(10), chance.run(n), width)
+            lines += [call(name, datagram) for datagram in one_changed(chance, frame)]
+    yield from dict.fromkeys(lines)
+
+
 KINDS = [
     ("bench cases of document 01", bench_cases),
     ("frames of source 002", source_frames),
@@ -3861,6 +3893,7 @@ KINDS = [
     ("events with one byte changed (W-211)", lambda: one_byte_changed("event")),
     ("events of two target bytes with one byte changed (W-211)", lambda: one_byte_changed("event_two")),
     ("several bytes changed (W-211)", several_bytes_changed),
+    ("the sum in words of eight (W-204)", sums_in_words),
 ]
 
 

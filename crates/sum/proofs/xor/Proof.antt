@@ -1,38 +1,36 @@
-use Prim.Native.Nat.{_≤_, _-_}
-use mathlib.Core.Path.{_≡_, sym, _∙_}
-use lib.ListN.{length, drop}
+use mathlib.Core.Path.{ap, _∙_}
+use lib.Seq.{take-length}
+use denote.Ref.{now}
 use borrow.Author.Needs.{needs}
-use Rattle.sum.specs.Sum.{sumFrom, sumOf}
-use Rattle.sum.specs.Sums.{sum-turn, sum-done}
+use Rattle.sum.specs.Sum.{sumOf}
 use Rattle.sum.proofs.xor.Statement.{statement}
 use Rattle.sum.proofs.xor.Tie as tie
 
-abbrev Inv-loop : tie.InvT-loop
-Inv-loop s x₀ i₀ x i = (i ≤ length s) × (sumFrom x (drop i s) ≡ sumOf s)
+slice-aggregate-short : tie.Need-slice-aggregate-short
+slice-aggregate-short c = rw (take-length (c .before .before .before .args .s .now))
 
-abbrev μ-loop : tie.MeasureT-loop
-μ-loop s x₀ i₀ x i = length s - i
+short-requires : tie.Need-short-requires
+short-requires c κs = rw (take-length (c .before .before .before .args .s .now)) (search needs)
 
-loop-holds : tie.Need-loop-holds Inv-loop μ-loop
-loop-holds c = search needs
+returns : tie.Need-returns
+returns c = c .short .ensures ∙ ap sumOf (take-length (now (c .before .before .before .before .args .s)))
 
-shared-slice-read-x : tie.Need-shared-slice-read-x Inv-loop μ-loop
-shared-slice-read-x c = search needs
+slice-aggregate-long : tie.Need-slice-aggregate-long
+slice-aggregate-long c = rw (take-length (c .before .before .before .args .s .now))
 
-add-i : tie.Need-add-i Inv-loop μ-loop
-add-i c = search needs
+long-requires : tie.Need-long-requires
+long-requires c κs = rw (take-length (c .before .before .before .args .s .now)) (search needs)
 
-loop-less : tie.Need-loop-less Inv-loop μ-loop
-loop-less c = search needs
-
-loop-again : tie.Need-loop-again Inv-loop μ-loop
-loop-again c =
-    (search needs, sum-turn _ _ _ (c .before .loop-test .taken) ∙ c .before .before .loop .inv .1)
-
-returns : tie.Need-returns Inv-loop μ-loop
-returns c = sym (sum-done _ _ _ (c .loop-test .left)) ∙ c .before .loop .inv .1
+returns-2 : tie.Need-returns-2
+returns-2 c = c .long .ensures ∙ ap sumOf (take-length (now (c .before .before .before .before .args .s)))
 
 pub xor-spec : {M : Type 1} → statement M
 xor-spec =
     tie.close
-    (tie.spec Inv-loop μ-loop loop-holds shared-slice-read-x add-i loop-less loop-again returns)
+    (tie.spec
+    slice-aggregate-short
+    short-requires
+    returns
+    slice-aggregate-long
+    long-requires
+    returns-2)
