@@ -1,5 +1,5 @@
 /* Command numbers asked as a program in C does (include/wickanchor.h): bench/speed counts what a call takes. Of standard input the first byte says
- * what is asked: 0 whether a command is known, which the decision tells, 1 its entry in the table. The second is not looked at. Each byte behind them is
+ * what is asked: 0 whether a command is known, 1 its entry in the table. The second is not looked at. Each byte behind them is
  * a command, and makes one call. It prints how many of them are known. */
 #include "wickanchor.h"
 
@@ -11,13 +11,13 @@ static uint8_t input[65536];
 int main(void)
 {
     long size = read(0, input, sizeof input), known = 0;
-    uint8_t (*volatile decides)(uint8_t) = wick_known;
+    uint8_t (*volatile knows)(uint8_t) = wick_known;
     struct wick_entry (*volatile looks)(uint8_t) = wick_table;
 
     if (input[0]) {
         for (long i = 2; i < size; i++) known += looks(input[i]).shape != 0;
     } else {
-        for (long i = 2; i < size; i++) known += decides(input[i]) != 0;
+        for (long i = 2; i < size; i++) known += knows(input[i]) != 0;
     }
     printf("%ld commands known\n", known);
     return 0;

@@ -36,6 +36,8 @@ static uint64_t high_first(const uint8_t *bytes, int n) {
     return x;
 }
 
+static uint32_t four(const uint8_t *bytes) { return (uint32_t)high_first(bytes, 4); }
+
 static void numbered(const char *word, struct wick_number r) {
     printf("%u", r.refusal);
     if (!r.refusal) number(word, r.number);
@@ -391,29 +393,32 @@ static void book_set(void) {
     memset(&book, 0, sizeof book);
     if (g[1].n) memcpy(book.asked, g[1].bytes, g[1].n);
     book.last = g[0].bytes[0];
+    for (uint64_t i = 0; i < g[2].n; i++) book.ticks[i / 4] |= (uint32_t)g[2].bytes[i] << (8 * (3 - i % 4));
     printf("0");
 }
 
 static void book_show(void) {
     printf("0 last %u held", book.last);
     for (int i = 0; i < 256; i++)
-        if (book.asked[i]) printf(" %02X %02X", i, book.asked[i]);
+        if (book.asked[i]) printf(" %02X %02X %lu", i, book.asked[i], (unsigned long)book.ticks[i]);
 }
 
 static void ask(void) {
-    struct wick_booked r = wick_ask(book, g[0].bytes[0]);
-    book = r.book;
+    struct wick_booked r = wick_ask(book.asked, &book.last, book.ticks, g[0].bytes[0], four(g[0].bytes + 1));
     printf("%u", r.refusal);
     if (!r.refusal) number("number", r.answer);
     else if (r.answer) printf(" NOT 0");
 }
 
 static void answer(void) {
-    struct wick_booked r = wick_answer(book, g[0].bytes[0]);
-    book = r.book;
+    struct wick_booked r = wick_answer(book.asked, g[0].bytes[0]);
     printf("%u", r.refusal);
     if (!r.refusal) printf(" command %02X", r.answer);
     else if (r.answer) printf(" NOT 0");
+}
+
+static void give_up(void) {
+    printf("0 freed %u", wick_give_up(book.asked, book.ticks, four(g[0].bytes), four(g[0].bytes + 4)));
 }
 
 /* Lines */
@@ -541,8 +546,6 @@ static void same_mark(struct wick_mark a, struct wick_mark b) {
     same_time(a.has_last, a.last, b.has_last, b.last);
     if (a.used != b.used) printf(" NOT THE SAME");
 }
-
-static uint32_t four(const uint8_t *bytes) { return (uint32_t)high_first(bytes, 4); }
 
 static void capture_set(void) {
     free(kept.bytes);
@@ -832,7 +835,7 @@ static const struct {
     CALL(event_two), CALL(event_two_data), CALL(write_event_two),
     CALL(sum), CALL(known), CALL(inside), CALL(table), CALL(error_name), CALL(event_type), CALL(group_target), CALL(device), CALL(device_number), CALL(name),
     CALL(lights), CALL(status), CALL(mask), CALL(scenes), CALL(gear), CALL(types), CALL(count_types), CALL(count_gear),
-    CALL(lowest_type), CALL(lowest_gear), CALL(filters), CALL(filter), CALL(book_fresh), CALL(book_set), CALL(book_show), CALL(ask), CALL(answer),
+    CALL(lowest_type), CALL(lowest_gear), CALL(filters), CALL(filter), CALL(book_fresh), CALL(book_set), CALL(book_show), CALL(ask), CALL(answer), CALL(give_up),
     CALL(fresh_request), CALL(fresh_reply), CALL(hold_request), CALL(hold_reply), CALL(feed_request), CALL(feed_reply),
     CALL(close_request), CALL(close_reply), CALL(show_request), CALL(show_reply), CALL(item_request), CALL(item_reply), CALL(quiet),
     CALL(capture_set), CALL(summary_set), CALL(mark_set), CALL(capture_empty), CALL(capture_append), CALL(capture_append_at),

@@ -58,9 +58,11 @@ static bool retired() {
     uint8_t groups[WICK_BASIC_BYTES], out[WICK_BASIC_BYTES] = {};
     const struct wick_request r = wick_request(scenes, sizeof scenes);
     struct wick_book book = wick_book();
-    const struct wick_booked fresh = wick_ask(book, WICK_QUERY_SCENE_NUMBERS);
+    const struct wick_booked fresh = wick_ask(book.asked, &book.last, book.ticks, WICK_QUERY_SCENE_NUMBERS, 5);
+    const bool same = book.last == 255 && !book.ticks[0];
     for (int i = 0; i < 256; i++) book.asked[i] = WICK_QUERY_SCENE_NUMBERS;
-    const struct wick_booked none = wick_ask(book, WICK_QUERY_SCENE_NUMBERS), freed = wick_answer(book, 7);
+    const struct wick_booked none = wick_ask(book.asked, &book.last, book.ticks, WICK_QUERY_SCENE_NUMBERS, 5),
+        full = wick_ask(book.asked, &book.last, book.ticks, WICK_QUERY_GROUP_NUMBERS, 5), freed = wick_answer(book.asked, 7);
     return refused(WICK_QUERY_SCENE_NUMBERS, 0, 0, 0) == WICK_RETIRED && refused(WICK_QUERY_SCENE_NUMBERS, 1, 2, 3) == WICK_RETIRED
         && wick_write_basic(0, WICK_QUERY_SCENE_NUMBERS, 1, 0, 0, 0, out, 0).refusal == WICK_RETIRED
         && wick_relay_request(scenes, sizeof scenes, out, sizeof out).refusal == WICK_RETIRED && !out[0]
@@ -68,9 +70,23 @@ static bool retired() {
         && r.refusal == WICK_OK && r.command == WICK_QUERY_SCENE_NUMBERS && r.sequence == 7 && r.retired == 1 && r.meaning.kind == WICK_MEANS_NOTHING
         && wick_request(groups, sizeof groups).refusal == WICK_OK && wick_request(groups, sizeof groups).retired == 0
         && whole(scenes, sizeof scenes) && wick_known(WICK_QUERY_SCENE_NUMBERS)
-        && fresh.refusal == WICK_RETIRED && fresh.book.last == 255 && none.refusal == WICK_RETIRED
-        && wick_ask(book, WICK_QUERY_GROUP_NUMBERS).refusal == WICK_NO_NUMBER_FREE
-        && freed.refusal == WICK_OK && freed.answer == WICK_QUERY_SCENE_NUMBERS && wick_answer(freed.book, 7).refusal == WICK_NOT_AWAITED;
+        && fresh.refusal == WICK_RETIRED && same && none.refusal == WICK_RETIRED && full.refusal == WICK_NO_NUMBER_FREE
+        && freed.refusal == WICK_OK && freed.answer == WICK_QUERY_SCENE_NUMBERS && wick_answer(book.asked, 7).refusal == WICK_NOT_AWAITED;
+}
+
+// A request is kept as long as it is no older than the limit, round the end of the clock too, and given up one tick later; so is one that by a
+// clock gone back is from tomorrow. Its number is free then, and no other changes. A full book is given up whole, and its last number stays.
+static bool given_up() {
+    const uint32_t end = 0xFFFFFFFF;
+    struct wick_book book = wick_book();
+    const struct wick_booked first = wick_ask(book.asked, &book.last, book.ticks, WICK_QUERY_GROUP_NUMBERS, end - 1),
+        second = wick_ask(book.asked, &book.last, book.ticks, WICK_QUERY_GROUP_LABEL, 9);
+    const bool kept = first.answer == 0 && second.answer == 1 && wick_give_up(book.asked, book.ticks, 9, 11) == 0 && book.asked[0];
+    const bool gone = wick_give_up(book.asked, book.ticks, 10, 11) == 1 && !book.asked[0] && book.asked[1] == WICK_QUERY_GROUP_LABEL
+        && book.last == 1 && book.ticks[0] == end - 1 && book.ticks[1] == 9 && wick_answer(book.asked, 0).refusal == WICK_NOT_AWAITED;
+    const bool back = wick_give_up(book.asked, book.ticks, 8, end) == 0 && wick_give_up(book.asked, book.ticks, 8, end - 1) == 1;
+    for (int i = 0; i < 256; i++) book.asked[i] = WICK_QUERY_GROUP_NUMBERS;
+    return kept && gone && back && wick_give_up(book.asked, book.ticks, 20, 0) == 256 && book.last == 1 && !book.asked[255];
 }
 
 // Under the quiet profile a query is written as without it, and a command that switches is refused behind a bad argument and before no room; a run
@@ -265,6 +281,6 @@ int main() {
     const struct wick_reply r = wick_reply(frame, sizeof frame);
     const struct wick_wrote w = wick_write_reply(WICK_REPLY_ANSWER, r.sequence, frame + r.data_at, r.n, out, sizeof out);
     const struct wick_given v = wick_feed(WICK_REPLY_LINE, wick_reader(), out, w.count);
-    return r.refusal == WICK_OK && w.count == sizeof frame && v.has_item && v.item == 0 && v.count == w.count && scenes() && colours() && retired() && quiet() && table() && layouts()
+    return r.refusal == WICK_OK && w.count == sizeof frame && v.has_item && v.item == 0 && v.count == w.count && scenes() && colours() && retired() && given_up() && quiet() && table() && layouts()
         ? 0 : 1;
 }

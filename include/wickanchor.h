@@ -4,13 +4,18 @@
    - A run of bytes is a pointer and a length, and so many bytes can be read there. NULL with length 0 is an empty run.
    - A lent buffer, `out` or `buf`, has `room` bytes that can be written, and shares no byte with any other run of the same call. (A `const`
      one is only read.)
-   - No run lies in the variable that the call's answer is assigned to. (Structs go by value: `book = wick_ask(book, command).book` is fine.)
-   - Nothing is asked of the bytes, numbers and structs that are handed in. Functions keep nothing between calls, and may run at once.
+   - The parts of a book that are lent are there whole: 256 bytes, 256 ticks, which lie where a uint32_t may, and the last number. They share no
+     byte, as in a struct wick_book. (A `const` one is only read.)
+   - No run and no part of a book lies in the variable that the call's answer is assigned to. (Other structs go by value:
+     `reader = wick_feed(line, reader, part, length).reader` is fine.)
+   - Nothing is asked of the bytes, numbers and structs that are handed in. Functions keep nothing between calls, and may run at once, but for two that
+     are lent the same buffer or book.
 
    `refusal` is 0 where a call is not refused; then the fields count. Else it is one of enum wick_refusal, and all other fields are 0 (but
-   for a book, and for mark, summary and bytes in use of an append or of a run of datagrams, which are handed back as they were). The lowest
-   number that applies is given, but for 17, which comes right behind 3, and 13, which comes right before 8; calls of a capture give the first in the
-   order in which their refusals stand below. A refused writer writes no byte; one that is not refused writes `count` bytes, and leaves those behind them. */
+   for mark, summary and bytes in use of an append or of a run of datagrams, which are handed back as they were), and a book that was lent is
+   as it was. The lowest number that applies is given, but for 17, which comes right behind 3, and 13, which comes right before 8; calls of a
+   capture give the first in the order in which their refusals stand below. A refused writer writes no byte; one that is not refused writes
+   `count` bytes, and leaves those behind them. */
 #ifndef WICKANCHOR_H
 #define WICKANCHOR_H
 
@@ -24,8 +29,10 @@
    functions whose names begin with wick_write_colour, command 0E, which has a name, and the colour in struct wick_request, which is longer; a
    reader of a request line holds up to 12 bytes. 10: command 0A is retired (W-210): refusal 17, which has a name, and `retired` in struct
    wick_request, in the place of a byte that said nothing, so that no other field moves. 11: the quiet profile (W-203): the functions whose names
-   end in _quiet, wick_inside, wick_quiet, and refusal 13, which has a name. 12: the table of commands (W-209): wick_table. */
-#define WICKANCHOR_VERSION 12
+   end in _quiet, wick_inside, wick_quiet, and refusal 13, which has a name. 12: the table of commands (W-209): wick_table. 13: ticks in the book
+   (W-205): wick_give_up; struct wick_book is longer, its parts are lent to wick_ask and wick_answer, which hand no book back, and wick_ask takes
+   a tick. */
+#define WICKANCHOR_VERSION 13
 
 #ifdef __cplusplus
 extern "C" {
@@ -307,16 +314,17 @@ struct wick_entry {
 };
 
 /* The book of unanswered requests: the command asked under each sequence number (a number that is no known command counts as nothing
-   asked), and the last number given. A caller keeps it, hands it in by value, and goes on with the one handed back. */
+   asked), the last number given, and the tick at which each was asked (where nothing is, it says nothing). A caller keeps it, and lends each
+   call what it needs of it; what a call is not lent stays as it is. */
 struct wick_book {
     uint8_t asked[256];
     uint8_t last;
+    uint32_t ticks[256];
 };
 
 struct wick_booked {
     uint8_t refusal;
     uint8_t answer;                 /* the sequence number, or the command */
-    struct wick_book book;          /* afterwards */
 };
 
 /* The kinds of numbers that have names as text */
@@ -506,8 +514,8 @@ WICK_SIZE(struct wick_event, 32);
 WICK_SIZE(struct wick_filters, 16);
 WICK_SIZE(struct wick_filter, 6);
 WICK_SIZE(struct wick_entry, 2);
-WICK_SIZE(struct wick_book, 257);
-WICK_SIZE(struct wick_booked, 259);
+WICK_SIZE(struct wick_book, 1284);
+WICK_SIZE(struct wick_booked, 2);
 WICK_SIZE(struct wick_reader, 80);
 WICK_SIZE(struct wick_given, 176);
 WICK_SIZE(struct wick_item, 16);
@@ -632,11 +640,18 @@ struct wick_aim wick_status(uint8_t target);
 /* A book in which nothing is asked, and whose first number is 0. */
 struct wick_book wick_book(void);
 
-/* The sequence number for a request with this command, which is awaited from then on. Refusals 3, 17, 9, in this order. */
-struct wick_booked wick_ask(struct wick_book book, uint8_t command);
+/* The sequence number for a request with this command at this tick, which is awaited from then on: `wick_ask(book.asked, &book.last, book.ticks,
+   command, tick)`. A tick is any number of the caller's clock, of 32 bits, which runs round past its end. Refusals 3, 17, 9, in this order. */
+struct wick_booked wick_ask(uint8_t asked[256], uint8_t *last, uint32_t ticks[256], uint8_t command, uint32_t tick);
 
-/* The command that was asked under a reply's sequence number, which is free from then on; a retired one too. Refusal 10. */
-struct wick_booked wick_answer(struct wick_book book, uint8_t number);
+/* The command that was asked under a reply's sequence number, which is free from then on; a retired one too: `wick_answer(book.asked, number)`.
+   Refusal 10. */
+struct wick_booked wick_answer(uint8_t asked[256], uint8_t number);
+
+/* Gives up each request that is older than a limit, and says how many these were, 0 to 256: their numbers are free from then on, no other
+   changes. A request's age is the tick now less the tick at which it was asked, round the end, so that a clock that has gone back gives a great
+   age; one that is just as old as the limit is kept. `wick_give_up(book.asked, book.ticks, now, limit)`. */
+uint16_t wick_give_up(uint8_t asked[256], const uint32_t ticks[256], uint32_t now, uint32_t limit);
 
 /* A reader that holds nothing. */
 struct wick_reader wick_reader(void);

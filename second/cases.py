@@ -459,16 +459,54 @@ def reply_data():
 KNOWN = sorted(list(opinion.BASIC) + [opinion.UNICAST])
 
 
-def ask(command):
-    return call("ask", [command])
+# The ticks of W-205: all of 32 bits.
+ROUND = 2 ** 32
+
+
+class Ticks:
+    """The ticks of the cases that are older than W-205, by a rule of their own, so that what these pick by chance stays: with the ticks taken away
+    they are the lines that they were. A kind begins the count anew, so that it has the same lines wherever it is made."""
+
+    ENDS = [0, 1, 2 ** 31 - 1, 2 ** 31, ROUND - 2, ROUND - 1]
+
+    # How many bytes of ticks a book handed in has, in turn: none, some, some and a part of one, and (None) those of all its entries.
+    SIZES = [None, 0, 4, 7, 1, 12, 2, 30]
+
+    def __init__(self):
+        self.begin()
+
+    def begin(self):
+        self.asked = self.books = 0
+
+    def next(self, command):
+        """The tick of the next request: some that look random, and now and then one of the ends."""
+        self.asked += 1
+        if self.asked % 8 == 0:
+            return self.ENDS[self.asked // 8 % len(self.ENDS)]
+        return (0x9E3779B1 * self.asked + 0x01000193 * command) % ROUND
+
+    def group(self, held):
+        """The ticks of the next book that is handed in."""
+        size = self.SIZES[self.books % len(self.SIZES)]
+        self.books += 1
+        size = 4 * len(held) if size is None else size
+        commands = (bytes(held) + bytes(8))[:(size + 3) // 4]
+        return b"".join(wide(self.next(command), 4) for command in commands)[:size]
+
+
+TICKS = Ticks()
+
+
+def ask(command, tick=None):
+    return call("ask", bytes([command]) + wide(TICKS.next(command) if tick is None else tick % ROUND, 4))
 
 
 def answered(number):
     return call("answer", [number])
 
 
-def book_set(last, held):
-    return call("book_set", [last], held)
+def book_set(last, held, ticks=None):
+    return call("book_set", [last], held, TICKS.group(held) if ticks is None else ticks)
 
 
 def full_book():
@@ -534,6 +572,7 @@ def book_runs():
 
 
 def book():
+    TICKS.begin()
     for part in [full_book(), books_handed_in(), book_runs()]:
         yield from part
 
@@ -2491,9 +2530,9 @@ NO_CALLS = [
     "lowest_gear 00 00 00 00 00 00 00 00 00", "filter / 00", "filter 00 / 00",
     "filter 00 00 00 00 00 00 00 00 00 / 00", "write_basic /", "write_basic 00 01 00 00 00 /",
     "write_basic 00 01 00 00 00 00 00 / 00", "write_unicast 00 22 6B C0 A8 0A / 00", "write_reply A0 / / 00",
-    "write_reply A0 00 00 / / 00", "write_event 00 00 00 00 00 00 00 00 00 00 / / 00", "ask", "ask 01 01", "answer",
-    "answer 00 00", "book_fresh 00", "book_show 00", "book_set / 01", "book_set 00 00 / 01",
-    "book_set 00 /" + " 01" * 257, "fresh_request 00", "close_reply 00", "show_reply 00", "hold_reply 00 / 01",
+    "write_reply A0 00 00 / / 00", "write_event 00 00 00 00 00 00 00 00 00 00 / / 00", "ask", "ask 01 01 00 00 00 07", "answer",
+    "answer 00 00", "book_fresh 00", "book_show 00", "book_set / 01 / 00 00 00 07",
+    "book_set 00 00 / 01 /", "book_set 00 /" + " 01" * 257 + " / 00 00 00 07", "fresh_request 00", "close_reply 00", "show_reply 00", "hold_reply 00 / 01",
     "hold_reply / 01", "hold_reply 00 00 00 00 00 00 00 01 /" + " A0" * 68,
     "hold_request 00 00 00 00 00 00 00 01 /" + " 04" * 68,
     "event_two /", "event_two_data 00 / 00", "write_event_two 00 00 00 00 00 00 00 00 00 00 / / 00",
@@ -2534,8 +2573,8 @@ NO_CALLS = [
 # Calls with several blanks and small letters.
 CALLS_SET_OTHERWISE = [
     "   sum   01    02  ", "sum aa Bb cC", "request 04 00 01 0a 00 00 00 0f", "  frame  01  /  02  /  03  04  05  ",
-    "frame  /  /  ", " frame / / 00", "hold_reply 00 00 00 00 00 00 00 03 / a0 00 00", " show_reply", "book_set 07 /",
-    " book_show ", "book_set 07 /" + " a9" * 256, "ask a9", "book_fresh   ",
+    "frame  /  /  ", " frame / / 00", "hold_reply 00 00 00 00 00 00 00 03 / a0 00 00", " show_reply", "book_set 07 / /",
+    " book_show ", "book_set 07 /" + " a9" * 256 + " / 0a bB  Cc 0d", "ask a9 0a  bB Cc 0d", "book_fresh   ",
     " capture_set  00 00 00 00 00 00 00 01  /  01  0a ff  ", "  capture_show  ", "capture_open   ", "capture_set 00 00 00 00 00 00 00 00 /",
     "capture_empty  02", "capture_append 00 00 00 07 /", "capture_set 00 00 00 00 00 00 00 01 /" + " 02" * 1300, " capture_empty 01 ",
     "capture_append_at 00 00 00 07 / 5a 43 7c ba cc 2f 40 2e 00 00 3b 03 00 6a", "capture_prefix", "capture_record 00 00 00 00 00 00 00 01",
@@ -2549,7 +2588,7 @@ CALLS_SET_OTHERWISE = [
 ]
 
 # What the run carries, set before the lines that are no call and shown behind them.
-CARRIED = ["fresh_request", "fresh_reply", "feed_request 04 00", "feed_reply A1 00 02", "book_fresh", "ask 40",
+CARRIED = ["fresh_request", "fresh_reply", "feed_request 04 00", "feed_reply A1 00 02", "book_fresh", "ask 40 01 02 03 04",
            capture_set(0, pattern(30)), SOME_SUMMARY, capture_empty(1), append_at(7, event(59, 3, b"")), append(7, b""),
            begin(59), part(b"\x01" + happened(3, 7, target=59) + happened(3, 1007, target=59)[:9])]
 CARRIED_SHOWN = ["show_request", "show_reply", "book_show", "capture_show", part(happened(3, 1007, target=59)[9:]), END]
@@ -2723,6 +2762,7 @@ def colour_books():
 
 
 def colours():
+    TICKS.begin()
     for part in [printed_colour(), colour_sizes(), colour_bytes(), colour_types(), colour_addresses(), colour_faults(), colours_read_and_written(),
                  colours_into_buffers(), colour_command(), colour_books()]:
         yield from part
@@ -2905,13 +2945,13 @@ COLOUR_CALLS_SET_OTHERWISE = [
     "  write_colour_xy  00 4f fE 12 34 56 78  /  aa bb cc dd ee ff 00 11 22 33 44 55  ", "write_colour_xy 00 4F FE 12 34 56 78 /",
     "write_colour_tc 0a 7f fe 01 72 /", " write_colour_tc 0a 7f fe 01 72 / 00 00 00 00 00 00 00 00 00", "write_colour_tc 0A 7F FE 01 72 / ",
     "write_colour_rgbwaf  ff ff ff ff ff ff ff ff ff /" + " 00" * 13, "write_colour_rgbwaf FF fe FF 01 02 03 04 05 06 /",
-    " request  04 0a 0e 7f fe 20 01 72 d2 ", "feed_request 04 0a 0e 7f fe 20 01 72 d2", "close_request", " ask 0e ", "book_show",
+    " request  04 0a 0e 7f fe 20 01 72 d2 ", "feed_request 04 0a 0e 7f fe 20 01 72 d2", "close_request", " ask 0e  0a bB Cc 0d ", "book_show",
 ]
 
 
 def no_colour_calls():
     """Lines that are no call, between what the run carries, set before them and shown behind them."""
-    yield from ["fresh_request", "feed_request 04 00 0E 01 FE", "book_fresh", "ask 0E"]
+    yield from ["fresh_request", "feed_request 04 00 0E 01 FE", "book_fresh", "ask 0E 01 02 03 04"]
     yield from COLOUR_NO_CALLS + ["show_request", "book_show", "feed_request 20 01 72 A6", "close_request"] + COLOUR_CALLS_SET_OTHERWISE
     yield "request 04 00 0E 7F FE 20 01 72 D8"
 
@@ -3078,6 +3118,7 @@ def retired_book_runs():
 
 
 def retired_command():
+    TICKS.begin()
     for part in [retired_datagrams(), retired_faults(), retired_relays(), retired_writing(), retired_values(), refused_asks(), asks_of_a_full_book(),
                  replies_to_retired(), numbers_held_by_retired(), filled_by_asking(), retired_book_runs()]:
         yield from part
@@ -3600,6 +3641,7 @@ def entries_beside_what_is_carried():
 
 
 def table_of_commands():
+    TICKS.begin()
     for part in [all_entries(), entries_of_the_list(), entries_beside_the_decision(), entries_of_one_rule(), entries_beside_what_is_carried()]:
         yield from part
     yield "help"
@@ -3637,6 +3679,7 @@ TABLE_CALLS_SET_OTHERWISE = [
 
 def no_table_calls():
     """Lines that are no call, between what the run carries; the last of them is the last row of document 01's table."""
+    TICKS.begin()
     yield from ["fresh_request", "feed_request 04 00 0A", "book_fresh", ask(0x41)]
     yield from TABLE_NO_CALLS + ["show_request", "book_show"] + ["close_request"] * 4 + TABLE_CALLS_SET_OTHERWISE
     yield table(0xAB)
@@ -3856,6 +3899,328 @@ def sums_in_words():
     yield from dict.fromkeys(lines)
 
 
+# Unanswered for how long (document 02, W-205)
+
+def give_up(now, limit):
+    return call("give_up", wide(now % ROUND, 4) + wide(limit % ROUND, 4))
+
+
+def in_bytes(ticks):
+    """The ticks as a book handed in has them."""
+    return b"".join(wide(tick % ROUND, 4) for tick in ticks)
+
+
+# Ticks, times and limits about the ends of 32 bits and of 31, of one byte and of two, and some whose bytes are told apart.
+TICK_EDGES = [0, 1, 2, 255, 256, 65535, 0x01020304, 2 ** 31 - 1, 2 ** 31, 2 ** 31 + 1, 0xFCFDFEFF, ROUND - 2, ROUND - 1]
+
+# All known commands, 0A too: a book handed in may hold it.
+ALL_KNOWN = sorted(KNOWN + [0x0E])
+FULL = bytes((ALL_KNOWN * 8)[:256])
+
+
+def ages_about_limits():
+    """For each time and each limit: requests one tick older than the limit, as old as it and one tick younger, of the ages 1 and 0, and one asked a
+    tick from now, for which the clock has gone back. What is kept is what the book shows."""
+    for now in TICK_EDGES:
+        for limit in TICK_EDGES:
+            asked = [now - limit - 1, now - limit, now - limit + 1, now - 1, now, now + 1]
+            yield from [book_set(5, bytes([0x01, 0x40, 0x0E, 0x0A, 0xA9, 0x32]), in_bytes(asked)), give_up(now, limit), "book_show"]
+
+
+def ages_of_edges():
+    """For each time and each limit: requests asked at all these ticks, round the end too."""
+    for now in TICK_EDGES:
+        for limit in TICK_EDGES:
+            yield from [book_set(0, FULL[3:3 + len(TICK_EDGES)], in_bytes(TICK_EDGES)), give_up(now, limit), "book_show"]
+
+
+def ages_of_one_bit():
+    """Each bit alone as a time, as a tick and as a limit: one tick more than the limit, and one less."""
+    for bit in range(32):
+        one = 1 << bit
+        for asked, now in [(0, one), (one, 0), (one, one << 1), (ROUND - one, 0), (0x5A5A5A5A, 0x5A5A5A5A + one)]:
+            age = (now - asked) % ROUND
+            yield from ["book_fresh", ask(0x09, asked), give_up(now, age), give_up(now, age - 1), "book_show"]
+
+
+def ticks_asked():
+    """Ticks of every kind as asks write them down, one behind the other."""
+    bits, bytes_ = [1 << bit for bit in range(32)], [byte << 8 * place for place in range(4) for byte in [0x0A, 0x80, 0xFF]]
+    for ticks in [TICK_EDGES, bits, [ROUND - 1 - bit for bit in bits], bytes_]:
+        yield "book_fresh"
+        for place, tick in enumerate(ticks):
+            yield ask(ASKED[place % len(ASKED)], tick)
+        yield "book_show"
+
+
+def each_number_alone():
+    """Each number alone: asked, kept as long as it is no older than the limit, given up one tick later, no more awaited; and the number behind it is
+    the next."""
+    for number in range(256):
+        tick, limit = 0x9E3779B1 * number, 1 + 0x00FEDCBA * number % (ROUND - 2)
+        yield from [book_set((number + 255) % 256, b"", b""), ask(ASKED[number % len(ASKED)], tick), give_up(tick + limit, limit)]
+        yield from ["book_show", give_up(tick + limit + 1, limit), "book_show", answered(number), ask(0x09, tick)]
+
+
+def one_after_another():
+    """Full books in which one request after the other becomes too old, in several orders, so that each number is once the only one; not awaited then."""
+    for step, start, limit, last in [(1, 0, 255, 255), (255, ROUND - 128, 1000, 0), (77, 2 ** 31 - 100, ROUND - 300, 200)]:
+        order = [(step * (place + 1) - 1) % 256 for place in range(256)]
+        asked = [start + order.index(number) for number in range(256)]
+        yield from [book_set(last, FULL, in_bytes(asked)), give_up(start + limit, limit)]
+        for place, number in enumerate(order):
+            yield from [give_up(start + limit + place + 1, limit), answered(number)]
+            if place % 100 == 49:
+                yield "book_show"
+        yield "book_show"
+
+
+def full_books_given_up():
+    """Full books: none too old, then all 256, then none any more; all but one, and one alone."""
+    for held, tick, limit in [(bytes([0xA1] * 256), 0, 0), (bytes([0x0A] * 256), ROUND - 3, 5), (FULL, 0x01020304, ROUND - 2)]:
+        yield from [book_set(77, held, in_bytes([tick] * 256)), give_up(tick + limit, limit), "book_show", give_up(tick + limit + 1, limit)]
+        yield from ["book_show", give_up(tick + limit + 1, limit), give_up(tick, 0), ask(0x40, 7), answered(77), answered(78), "book_show"]
+    for number in [0, 1, 127, 128, 254, 255]:
+        for own, others in [(1, 0), (0, 1)]:
+            asked = [others] * 256
+            asked[number] = own
+            yield from [book_set(number, FULL, in_bytes(asked)), ask(0x09, 3), give_up(ROUND - 1, ROUND - 2), "book_show", answered(number)]
+            yield from [answered((number + 1) % 256), ask(0x09, ROUND - 1), ask(0x41, ROUND - 1), give_up(ROUND - 1, ROUND - 2), "book_show"]
+
+
+def filled_and_given_up():
+    """A book filled by asking at one tick after the other: 9 then, the older half given up, its numbers given again in their turn, and 9 again."""
+    for start in [0, ROUND - 100]:
+        yield "book_fresh"
+        for place in range(256):
+            yield ask(ASKED[place % len(ASKED)], start + place)
+        yield from [ask(0x09, start + 256), give_up(start + 256, 256), give_up(start + 256, 128), "book_show", answered(127), answered(128)]
+        for place in range(130):
+            yield ask(0xA9, start + 300 + place)
+        yield from ["book_show", give_up(start + 500, 499), give_up(start + 500, 200), ask(0x0E, start), "book_show"]
+
+
+def each_value_alone():
+    """Each value as the one entry of a book, as old as the limit and older: what is no known command is nothing held, and stays as it is."""
+    for value in range(256):
+        yield from [book_set(9, [value], wide(value * 0x01010101, 4)), give_up(value * 0x01010101 + 6, 6), "book_show", give_up(value * 0x01010101 + 7, 6)]
+        yield from ["book_show", answered(0)]
+
+
+def each_value_in_one_book():
+    """Books that have each value as an entry: none too old, some, all that are held; replies to all; and asks, which go over what is nothing held."""
+    every = bytes(range(256))
+    for last, held, asked in [(0, every, [1000] * 256), (255, every[::-1], range(256)), (100, every, range(2560, 0, -10)), (31, every, [])]:
+        now, limit = 1001, 1000 if not asked else 1001 - max(asked)
+        yield from [book_set(last, held, in_bytes(asked)), "book_show", give_up(now, limit + 1), give_up(now, 1000), "book_show", give_up(now, 500)]
+        yield from ["book_show", give_up(now, 0), give_up(now, 0), "book_show"]
+    for number in range(256):
+        yield answered(number)
+    yield from ["book_show", book_set(255, every, in_bytes([5] * 256)), give_up(7, 1)]
+    for place in range(300):
+        yield ask(ASKED[place % len(ASKED)], 100 + place)
+    yield from ["book_show", give_up(400, 200), "book_show"]
+
+
+# Entries of every kind: nothing, unknown, retired, of each shape.
+SOME_ENTRIES = [0x00, 0x02, 0x09, 0x0A, 0x0D, 0x0E, 0x0F, 0x13, 0x40, 0xA9, 0xAF, 0xFF]
+
+
+def held_and_nothing_held():
+    """Entries of every kind beside one another, each older than the limit or not in every choice of two; and shown before and behind."""
+    for first in SOME_ENTRIES:
+        for second in SOME_ENTRIES:
+            asked = [(50, 49), (49, 50), (49, 49)][(first + second) % 3]
+            yield from [book_set(255, [0x01, first, second, 0xAE], in_bytes([50, *asked, 50])), "book_show", give_up(60, 10), "book_show"]
+            yield from [answered(1), answered(2), ask(0x20, 60), ask(0x1D, 61), "book_show"]
+
+
+def asks_after_giving_up():
+    """Numbers given up on both sides of 255 and in the middle: those in turn behind the last one are given, then 9. The last one does not move before."""
+    old = [0, 1, 2, 3, 100, 101, 253, 254, 255]
+    for last in [0, 2, 3, 99, 101, 252, 255]:
+        asked = [ROUND - 20 if number in old else ROUND - 10 for number in range(256)]
+        yield from [book_set(last, FULL, in_bytes(asked)), ask(0x09, 5), give_up(ROUND - 1, 10), answered(100)]
+        yield from [ask(command, place) for place, command in enumerate([0x01, 0x0A, 0x02, 0x40, 0x0E, 0xA0])]
+        yield from [answered(2), answered(4), give_up(3, 12), give_up(3, 3)]
+        yield from [ask(0x32, 4 + place) for place in range(7)] + [give_up(11, 12), "book_show", give_up(12, 5), "book_show"]
+
+
+def replies_after_giving_up():
+    """Replies to what was given up are 10; to what was kept, its command, once; then neither is given up again."""
+    asked = [7 * number % 256 for number in range(256)]
+    yield from [book_set(8, FULL, in_bytes(asked)), give_up(256, 128), "book_show"]
+    for number in range(256):
+        yield answered(number)
+    yield from ["book_show", give_up(1000, 0), answered(3), ask(0x0C, 1000), give_up(1000, 0), answered(9), answered(9), give_up(2000, 0), "book_show"]
+    for number in [0, 128, 255]:
+        given = book_set(number, replaced(bytes(256), number, 0x31), in_bytes([9] * 256))
+        yield from [given, answered(number), give_up(10, 0), answered(number), given, give_up(10, 0), answered(number), give_up(10, 0), "book_show"]
+
+
+def given_up_again():
+    """One time and limit twice; then a lower limit, a later time, and an earlier one."""
+    asked = [ROUND - 3, 0, 3, 6, 9, 12]
+    for now, limit in [(12, 9), (12, 12), (15, 3), (0, 2), (0, 3), (0, ROUND - 13), (ROUND - 3, 0), (5, 5), (12, ROUND - 1)]:
+        yield from [book_set(5, bytes([0x01, 0x08, 0x09, 0x0A, 0x0B, 0x0C]), in_bytes(asked)), give_up(now, limit), give_up(now, limit), "book_show"]
+        for later, other in [(now, limit // 2), (now + 1, limit), (now - 10, 3), (12, 0)]:
+            yield from [give_up(later, other), "book_show"]
+
+
+def refused_asks_and_ticks():
+    """Asks refused with 3, 17 and 9, in books with room and without: no tick is written, whichever number would have been the next."""
+    for last, held, asked in [(255, b"", []), (0, [0x09, 0x02, 0x0A], [7, 8, 9]), (2, [0x0D, 0xFF, 0x40], [ROUND - 1, 1, 0x01020304]),
+                              (9, FULL, [3 * number for number in range(256)]), (255, replaced(FULL, 0, 0x0D), [5] * 256)]:
+        yield from [book_set(last, held, in_bytes(asked)), "book_show"]
+        for command in [0x00, 0x02, 0x0A, 0x0D, 0x13, 0xFF]:
+            yield ask(command, 0x11223344)
+        yield from ["book_show", ask(0x09, 0x0A0B0C0D), ask(0x0A, 0x55667788), ask(0x03, 0x55667788), "book_show", ask(0xA1, 0x99AABBCC), "book_show"]
+
+
+def asks_over_nothing_held():
+    """Unknown entries with ticks: an ask writes command and tick where its turn is, the others stay; a reply and giving up leave their ticks too."""
+    held, asked = [0x02, 0xFF, 0x09, 0x0D, 0x0F, 0x13], [10, 20, 30, 40, 50, 60]
+    for last in [0, 1, 2, 4, 5, 255]:
+        yield from [book_set(last, held, in_bytes(asked)), "book_show", answered(last), ask(0x40, 1000), "book_show", ask(0x0E, 1001), "book_show"]
+        yield from [answered(2), answered(0), answered(1), "book_show", give_up(1001, 0), "book_show", ask(0x41, 1002), give_up(1002, 0), "book_show"]
+
+
+def ticks_handed_in():
+    """Ticks of every size about their places: a short end is filled with bytes 00. Entries with and without ticks, and ticks without entries."""
+    for size in list(range(13)) + [511, 512, 1019, 1020, 1021, 1022, 1023, 1024]:
+        yield from [book_set(7, FULL, pattern(size)), "book_show", give_up(opinion.high_first(pattern(4)) + 1, 0x01020304), "book_show"]
+    for count in [0, 1, 2, 3, 255]:
+        for size in [0, 3, 6, 1024]:
+            yield from [book_set(255, FULL[:count], pattern(size)), "book_show", ask(0x09, 1), ask(0x0B, 2 ** 31), "book_show", give_up(1, 0), "book_show"]
+    # what stood there before is gone: another book, and a fresh one
+    before = book_set(3, FULL[:5], b"\xFF" * 20)
+    yield from [before, book_set(3, FULL[:5], b"\xFE"), "book_show", book_set(3, FULL[:5], b""), "book_show", give_up(0, 0), give_up(1, 0)]
+    yield from [before, "book_fresh", "book_show", ask(0x09, 0), "book_show", give_up(0, 0), give_up(1, 0), "book_show"]
+
+
+def giving_up_beside_what_is_carried():
+    """Fresh books have nothing to give up; the readers and the capture stay as they are."""
+    yield from ["fresh_request", "fresh_reply", "feed_request 04 00 40", "feed_reply A1 00 02", capture_set(0, pattern(30)), capture_empty(1)]
+    yield from ["book_fresh", give_up(0, 0), give_up(ROUND - 1, 0), "book_show", ask(0x40, 3), ask(0x41, 4), give_up(5, 1), "book_show"]
+    yield from ["show_request", "show_reply", "capture_show", "feed_request 06 00 00 00 00 00 00 42", "feed_reply 07 0F AB", "close_request"]
+    yield from ["close_reply", answered(0), answered(1), "book_show", "help"]
+
+
+def clock_runs():
+    """Asks, replies and giving up as they come, by a clock that runs on, from ticks about the ends too, and in some runs goes back now and then."""
+    chance = Chance(205)
+    for _ in range(72):
+        now = chance.pick([0, ROUND - 200, 2 ** 31 - 100, chance.below(ROUND)])
+        pace, goes_back = chance.pick([1, 10, 1000, 2 ** 26]), chance.one_in(3)
+        last = chance.pick([0, 127, 255, chance.below(256)])
+        size = chance.pick([0, 3, 12, 40, 254 if chance.one_in(2) else 25, 256 if chance.one_in(2) else 60])
+        held = bytes(chance.pick(ALL_KNOWN) if not chance.one_in(6) else chance.below(256) for _ in range(size))
+        asked = in_bytes(now - chance.below(20 * pace) for _ in range(size))
+        yield book_set(last, held, asked[:chance.below(len(asked) + 1)] if chance.one_in(4) else asked)
+        asks = 0
+        for _ in range(80):
+            now += chance.below(2 * pace)
+            if goes_back and chance.one_in(10):
+                now -= chance.below(12 * pace)
+            act = chance.below(20)
+            if act < 10:
+                asks += 1
+                yield ask(chance.pick(ASKED) if not chance.one_in(10) else chance.pick([0x0A, chance.below(256)]), now)
+            elif act < 15:
+                lately = (last + 1 + chance.below(asks + 1)) % 256
+                yield answered(chance.pick([lately, lately, lately, chance.below(size + 1) % 256, chance.below(256)]))
+            elif act < 18:
+                yield give_up(now, chance.pick([chance.below(20 * pace), chance.below(20 * pace), 8 * pace, pace, ROUND - 1 - chance.below(pace)]))
+            else:
+                yield "book_show"
+        yield from ["book_show", give_up(now, chance.pick([0, pace, 2 ** 31])), "book_show"]
+
+
+def crowded_runs():
+    """Full books, or nearly, from which a few at a time are given up by a limit that falls: their numbers are given again, until 9."""
+    chance = Chance(206)
+    for _ in range(12):
+        now, limit = chance.pick([100, ROUND - 10, chance.below(ROUND)]), 203
+        last = chance.pick([0, 127, 255, chance.below(256)])
+        held = bytes(chance.pick(ALL_KNOWN) if not chance.one_in(80) else chance.below(256) for _ in range(256))
+        yield book_set(last, held, in_bytes(now - chance.below(200) for _ in range(256)))
+        for _ in range(10):
+            now, limit = now + chance.below(3), limit - chance.below(5)
+            yield from [give_up(now, limit), answered(chance.below(256))]
+            yield from [ask(chance.pick(ASKED), now + place) for place in range(chance.below(9))]
+        yield "book_show"
+
+
+def giving_up():
+    for part in [ages_about_limits(), ages_of_edges(), ages_of_one_bit(), ticks_asked(), each_number_alone(), one_after_another(), full_books_given_up(),
+                 filled_and_given_up(), each_value_alone(), each_value_in_one_book(), held_and_nothing_held(), asks_after_giving_up(),
+                 replies_after_giving_up(), given_up_again(), refused_asks_and_ticks(), asks_over_nothing_held(), ticks_handed_in(),
+                 giving_up_beside_what_is_carried(), clock_runs(), crowded_runs()]:
+        yield from part
+
+
+# The largest book that can be handed in: 256 commands and all their ticks.
+LARGEST_BOOK = "book_set 07 /" + " A9" * 256 + " /" + " 0A" * 1024
+
+# Lines that are no call of asking, giving up and books with ticks, by the rows of "What is no call", from its second; some are so by several rows.
+GIVING_UP_NO_CALLS = [
+    filled("give_up 00 00 00 09 00 00 00 01", 4096), filled("ask 09 00 00 00 07", 4096), filled(LARGEST_BOOK, 4096), "give_up" + " 00" * 1363,
+    " " * 4065 + "give_up 00 00 00 09 00 00 00 01", filled("give_ups 00", 4096), filled("give_up zz", 4096),
+    "book_set 07 /" + " A9" * 256 + " /" + " 0A" * 1105,
+
+    "give", "give_", "give_u", "give_ups 00 00 00 09 00 00 00 01", "Give_up 00 00 00 09 00 00 00 01", "GIVE_UP", "giveup 00 00 00 09 00 00 00 01",
+    "give_up_ 00 00 00 09 00 00 00 01", "give-up", "give up 00 00 00 09 00 00 00 01", "give_up: 00", "give_up/ 00", "_give_up", "give_up\t00", "give_up\r",
+    "give_up\x00 00", "up", "gave_up", "given_up", "give_up_all", "give_up_quiet 00 00 00 09 00 00 00 01", "book_give_up", "book_age 00", "age 00",
+    "free 00", "tick 00", "ticks", "tick_set", "ticks_set /", "ask_at 09 00 00 00 07", "ask_tick", "asks 09 00 00 00 07", "Ask 09 00 00 00 07",
+    "as 09", "forget",
+    "book_sets 00 / /", "book_tick", "book_ticks", "book", "Give_up / zz", "00 give_up",
+
+    "give_up 0", "give_up 00 00 00 09 00 00 00 1", "give_up 00 00 00 09 00 00 00 001", "give_up 0000000900000001", "give_up 00000009 00000001",
+    "give_up 9 1", "give_up zz", "give_up 00 00 00 09 00 00 00 0G", "give_up 00 00 00 09 00 00 00 zz 00", "give_up 00 00 00 09 / 00 00 00 zz",
+    "give_up 00 00 00 09/00 00 00 01", "give_up 00 00 00 09 // 00 00 00 01", "give_up 00 00 00 09 00 00 00 01\r", "give_up 00 00 00 09\t00 00 00 01",
+    "give_up 00 00 00 09 00 00 00 -1", "give_up 00 00 00 09 00 00 00 \xB9\xB2", "give_up all", "ask 09 7", "ask 09 00000007", "ask 09 00 00 00 7",
+    "ask 09 00 00 00 0x07", "ask 09 00 00 00 zz", "ask zz 00 00 00 07", "ask 09 / zz", "ask 09 00 00 00 07 now", "book_set 00 / 09 / 7",
+    "book_set 00 / 09 / 00 00 00 zz", "book_set 00 / 09 / 00000007", "book_set 00 / 09 /00 00 00 07", "book_set 00 / 09 // 07", "book_set zz",
+
+    "give_up /", "give_up / /", "give_up 00 00 00 09 / 00 00 00 01", "give_up 00 00 00 09 00 00 00 01 /", "give_up / 00 00 00 09 00 00 00 01",
+    "give_up 00 00 00 09 00 00 00 01 / 00", "give_up 00 00 00 / 09 00 / 00 00 01", "ask /", "ask 09 /", "ask 09 / 00 00 00 07", "ask / 09 00 00 00 07",
+    "ask 09 00 00 00 07 /", "ask 09 00 00 / 00 07", "answer 00 / 00 00 00 07", "answer 00 /", "book_set 00 00 00 07", "book_set /", "book_set 00 /",
+    "book_set 00 / 09", "book_set 00 / 09 00 00 00 07", "book_set 00 /" + " 09" * 256, "book_set 00 / 09 / 00 00 00 07 /", "book_set 00 / / /",
+    "book_set / / / /", "book_set 00 / 09 / 00 00 00 07 / 00", "book_set 00 / 09 / 00 00 / 00 07", "book_set 00 /" + " 09" * 257,
+    "book_set 00 / 09 / 00 00 00 07 / 0B / 00 00 00 08", "book_fresh / /", "book_show /",
+
+    "give_up", "give_up ", "give_up 00", "give_up 00 00 00 09", "give_up 00 00 00 09 01", "give_up 00 00 00 09 00 00 00",
+    "give_up 00 00 00 09 00 00 00 01 00", "give_up 00 00 00 00 09 00 00 00 01", "give_up" + " 00" * 16, "give_up" + " 00" * 256,
+    "ask 09", "ask 09 07", "ask 09 00 07", "ask 09 00 00 07",
+    "ask 00 00 00 07", "ask 09 00 00 00 00 07", "ask 09 00 00 00 07 00", "ask 0A", "ask 02", "ask 09 0B 00 00 00 07", "ask 09 00 00 00 00 00 00 00 07",
+    "ask 09 00 00 00 07 0B 00 00 00 08", "answer 00 00 00 00 07", "answer 00 00 00 00", "book_set / /", "book_set / 09 /", "book_set / / 00 00 00 07",
+    "book_set 00 00 / /", "book_set 00 07 / 09 / 00 00 00 07", "book_set 00 00 00 07 / 09 / 00 00 00 07", "book_set 00 /" + " 09" * 257 + " /",
+    "book_set 00 /" + " 09" * 257 + " / 00 00 00 07", "book_set 00 /" + " 09" * 300 + " / 00", "book_set 00 / /" + " 07" * 1025,
+    "book_set 00 / 09 /" + " 07" * 1025, "book_set 00 /" + " 09" * 256 + " /" + " 07" * 1025, "book_set 00 / /" + " 07" * 1028,
+    "book_set 00 /" + " 09" * 257 + " /" + " 07" * 1025, "book_set 00 /" + " 09" * 256 + " /" + " 07" * 1100, "book_set 00 / /" + " 07" * 1350,
+    "book_fresh 00 00 00 07", "book_show 00 00 00 07",
+]
+
+# The longest lines, blanks before, between and behind the words, small letters, and groups without bytes.
+GIVING_UP_CALLS_SET_OTHERWISE = [
+    "  ask  09  0a bB  Cc 0d  ", "ask a9 00 00 00 0f", " ask 0e ff Ff fF fe ", "book_show", "give_up   00 00 00 0F   ff 00 00 00",
+    "give_up 0a bb cc 1c 00 00 00 0f", " book_show  ", "  give_up  0A Bb  cC 1d  00 00 00 0F ", "book_show ", filled("ask a0 00 00 00 01", 4095),
+    " " * 4077 + "ask A0 00 00 00 02", "ask" + " " * 4078 + "a1 00 00 00 03", filled("give_up 00 00 00 09 00 00 00 07", 4095),
+    " " * 4064 + "give_up 00 00 00 09 00 00 00 06", "give_up" + " " * 4065 + "00 00 00 09 00 00 00 06", "book_show", filled(LARGEST_BOOK, 4095),
+    "book_show", "give_up 0a 0a 0a 0b 00 00 00 00", "book_set 07 /" + " a9" * 256 + " /" + " 0a" * 1024, "give_up 0a 0a 0a 0b 00 00 00 01",
+    "give_up 0a 0a 0a 0b 00 00 00 00",
+    "book_set 07 / /", " book_set  07  /  / ", "book_show", "book_set 07 / aE / fF", "  book_show", "book_set 07 / / 00 00 00 07", "book_show",
+    " book_set  07  /  ae  02  /  00 00 00 0a  0B  ", "book_show", "give_up 00 00 00 0b 00 00 00 00", "book_show", "answer  01", "answer 00",
+]
+
+
+def no_giving_up_calls():
+    """Lines that are no call, between what the run carries: a book with ticks that they neither ask nor free nor set."""
+    yield from ["book_fresh", ask(0x41, 2), ask(0x40, 0x01020304), ask(0x0E, ROUND - 1), "book_show"]
+    yield from GIVING_UP_NO_CALLS + ["book_show"] + GIVING_UP_CALLS_SET_OTHERWISE
+    yield from ["book_fresh", ask(0x09, 1), give_up(2, 1), give_up(2, 0), "book_show"]
+
+
 KINDS = [
     ("bench cases of document 01", bench_cases),
     ("frames of source 002", source_frames),
@@ -3894,6 +4259,8 @@ KINDS = [
     ("events of two target bytes with one byte changed (W-211)", lambda: one_byte_changed("event_two")),
     ("several bytes changed (W-211)", several_bytes_changed),
     ("the sum in words of eight (W-204)", sums_in_words),
+    ("asking, replying and giving up (W-205)", giving_up),
+    ("lines that are no call of giving up (W-205)", no_giving_up_calls),
 ]
 
 

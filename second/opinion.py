@@ -467,18 +467,33 @@ def read_filter(data, number):
 
 SEQUENCE_NUMBERS = 256
 
+# Document 02, W-205: "The book of unanswered requests must also hold the tick (32 bits, given by the caller, running round past its end) at which
+# each was asked."
+TICK_SIZE = 4
+TICKS = 256 ** TICK_SIZE
+
+
+# "Age is the tick now less the tick asked, taken round the end, so a clock that has gone back gives a great age."
+def age(now, asked):
+    """How many ticks it is from the tick asked to the tick now."""
+    return (now - asked) % TICKS
+
 
 class Book:
-    """Under each sequence number the command asked; an entry that is no known command is nothing held."""
+    """Under each sequence number the command asked and the tick at which it was; an entry that is no known command is nothing held. Handed in, the
+    ticks are bytes, high byte first."""
 
-    def __init__(self, last=255, held=b""):
+    def __init__(self, last=255, held=b"", ticks=b""):
         self.last = last
         self.held = bytearray(held) + bytes(SEQUENCE_NUMBERS - len(held))
+        filled = ticks + bytes(SEQUENCE_NUMBERS * TICK_SIZE - len(ticks))
+        self.ticks = [high_first(filled[place:place + TICK_SIZE]) for place in range(0, len(filled), TICK_SIZE)]
 
     # "Takes the first free number after the last one given, counting past 255 to 0 and trying the last one itself at
-    # the end; it becomes the last." W-210: "17, retired, comes after 3 and before 4", so before 9 too.
-    def ask(self, command):
-        """Writes the command down; gives its number."""
+    # the end; it becomes the last." W-210: "17, retired, comes after 3 and before 4", so before 9 too. W-205: "The record changes for asking and
+    # replying as well; their numbers, order and refusals stay."
+    def ask(self, command, tick):
+        """Writes the command and the tick down; gives their number."""
         refuse(3, not known(command))
         refuse(17, retired(command))
         in_turn = [(self.last + step) % SEQUENCE_NUMBERS for step in range(1, SEQUENCE_NUMBERS + 1)]
@@ -486,6 +501,7 @@ class Book:
         refuse(9, not free)
         self.last = free[0]
         self.held[self.last] = command
+        self.ticks[self.last] = tick
         return self.last
 
     # "A reply with an awaited number frees it and returns its command." W-210: "a book entry already asked with 0A still takes its reply".
@@ -495,6 +511,15 @@ class Book:
         refuse(10, not known(command))
         self.held[number] = 0
         return command
+
+    # W-205: "Add giving up all requests older than a limit: every such number is freed, no other changes, and the count freed is returned." Where
+    # nothing is held there is no request. The last number given stays.
+    def give_up(self, now, limit):
+        """Strikes out the numbers of the requests that are older than the limit; gives how many they are."""
+        older = [number for number in range(SEQUENCE_NUMBERS) if known(self.held[number]) and age(now, self.ticks[number]) > limit]
+        for number in older:
+            self.held[number] = 0
+        return len(older)
 
 
 # Reading a line
@@ -1295,19 +1320,23 @@ class Bench:
 
     def book_calls(self):
         """The calls on the book that is carried."""
-        def set_book(last=b"\xFF", held=b""):
-            self.book = Book(last[0], held)
+        def set_book(last=b"\xFF", held=b"", ticks=b""):
+            self.book = Book(last[0], held, ticks)
             return []
 
+        # "Ticks of entries 00 are not shown."
         def show():
-            held = [bytes([number, command]) for number, command in enumerate(self.book.held) if command]
-            return ["last", self.book.last, "held"] + held
+            book = self.book
+            held = [[bytes([number, book.held[number]]), book.ticks[number]] for number in range(SEQUENCE_NUMBERS) if book.held[number]]
+            return ["last", book.last, "held"] + [field for entry in held for field in entry]
 
         return {
             "book_fresh": ([exactly(0)], plain(lambda none: set_book())),
-            "book_set": ([exactly(1), at_most(SEQUENCE_NUMBERS)], plain(set_book)),
-            "ask": ([exactly(1)], plain(lambda command: ["number", self.book.ask(command[0])])),
+            "book_set": ([exactly(1), at_most(SEQUENCE_NUMBERS), at_most(SEQUENCE_NUMBERS * TICK_SIZE)], plain(set_book)),
+            "ask": ([exactly(1 + TICK_SIZE)], plain(lambda run: ["number", self.book.ask(run[0], high_first(run[1:]))])),
             "answer": ([exactly(1)], plain(lambda number: ["command", bytes([self.book.answer(number[0])])])),
+            "give_up": ([exactly(2 * TICK_SIZE)],
+                        plain(lambda run: ["freed", self.book.give_up(high_first(run[:TICK_SIZE]), high_first(run[TICK_SIZE:]))])),
             "book_show": ([exactly(0)], plain(lambda none: show())),
         }
 

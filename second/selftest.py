@@ -154,14 +154,14 @@ STATED_LATER = [
     ("name 01 0E / 00 00 00 00 00 00 00 00 00 00 00",
      "0 count 11 before 00 00 00 00 00 00 00 00 00 00 00 after 44 41 4C 49 5F 43 4F 4C 4F 55 52"),
     # the book takes it as a known command, asked and handed in
-    ("ask 0E", "0 number 0"),
-    ("ask 0F", "3"),
+    ("ask 0E 00 00 00 07", "0 number 0"),
+    ("ask 0F 00 00 00 07", "3"),
     ("answer 00", "0 command 0E"),
     ("answer 00", "10"),
-    ("book_set 00 / 00 0E 0D 0E", "0"),
-    ("ask 01", "0 number 2"),
+    ("book_set 00 / 00 0E 0D 0E / 00 00 00 01 00 00 00 02 00 00 00 03", "0"),
+    ("ask 01 00 00 01 00", "0 number 2"),
     ("answer 03", "0 command 0E"),
-    ("book_show", "0 last 2 held 01 0E 02 01"),
+    ("book_show", "0 last 2 held 01 0E 2 02 01 256"),
     # "the items follow the same numbers": 0 by the last byte of the frame, 4 by the sixth byte of the line, and 1 where it does not come
     ("feed_request 04 00 0E 7F FE", "0 taken 5 nothing"),
     ("feed_request 20 01 72 D8 04", "0 taken 4 item 0 count 9 bytes 04 00 0E 7F FE 20 01 72 D8"),
@@ -245,6 +245,77 @@ STATED_LATER = [
     ("quiet 04 00 02 00 00 00 00 06", "0 no"),
     ("name 00 0D / FF FF FF FF FF FF FF FF FF FF FF FF FF FF FF",
      "0 count 15 before FF FF FF FF FF FF FF FF FF FF FF FF FF FF FF after 4F 55 54 53 49 44 45 5F 50 52 4F 46 49 4C 45"),
+    # W-205: "must also hold the tick (32 bits, given by the caller, ..) at which each was asked"; "a fresh book has all ticks 0"
+    ("book_fresh", "0"),
+    ("give_up FF FF FF FF 00 00 00 00", "0 freed 0"),
+    ("ask 09 01 02 03 04", "0 number 0"),
+    ("ask 0E FF FF FF FE", "0 number 1"),
+    ("ask 40 00 00 00 03", "0 number 2"),
+    ("ask 41 00 00 00 04", "0 number 3"),
+    ("book_show", "0 last 3 held 00 09 16909060 01 0E 4294967294 02 40 3 03 41 4"),
+    # "running round past its end": at tick 4 the second is 6 ticks old, and "a clock that has gone back gives a great age": the first is
+    # 4278058240 ticks old; 6 is not "older than a limit" of 6, and is of 5
+    ("give_up 00 00 00 04 FE FD FD 00", "0 freed 0"),
+    ("give_up 00 00 00 04 FE FD FC FF", "0 freed 1"),
+    ("give_up 00 00 00 04 00 00 00 06", "0 freed 0"),
+    ("book_show", "0 last 3 held 01 0E 4294967294 02 40 3 03 41 4"),
+    ("give_up 00 00 00 04 00 00 00 05", "0 freed 1"),
+    ("book_show", "0 last 3 held 02 40 3 03 41 4"),
+    ("give_up 00 00 00 04 00 00 00 05", "0 freed 0"),
+    # a number given up is no more awaited, one that is kept is
+    ("answer 01", "10"),
+    ("answer 02", "0 command 40"),
+    ("give_up 00 00 00 04 00 00 00 00", "0 freed 0"),
+    # "their numbers, order and refusals stay": the last number has not moved
+    ("ask 0B 00 00 00 05", "0 number 4"),
+    # one tick before it was asked, a request is 4294967295 ticks old, which is older than every limit but that one
+    ("give_up 00 00 00 04 FF FF FF FF", "0 freed 0"),
+    ("give_up 00 00 00 04 FF FF FF FE", "0 freed 1"),
+    ("book_show", "0 last 4 held 03 41 4"),
+    ("give_up 00 00 00 03 7F FF FF FF", "0 freed 1"),
+    # "ticks of 0, 1, .., in 4 each; bytes 00 behind them, so a short end is filled up"; an entry that is no known command is shown, and is
+    # neither given up nor counted; 0A is a known one
+    ("book_set 07 / 0A 02 FF A9 / 00 00 00 01 00 00 00 02 00 00 00 03 04", "0"),
+    ("book_show", "0 last 7 held 00 0A 1 01 02 2 02 FF 3 03 A9 67108864"),
+    ("give_up 00 00 00 0A 00 00 00 08", "0 freed 2"),
+    ("book_show", "0 last 7 held 01 02 2 02 FF 3"),
+    ("answer 01", "10"),
+    ("answer 00", "10"),
+    # an ask writes command and tick over one that is nothing held, and leaves the other
+    ("book_set 00 / 0A 02 FF / 00 00 00 01 00 00 00 02 00 00 00 03", "0"),
+    ("ask A0 80 00 00 00", "0 number 1"),
+    ("book_show", "0 last 1 held 00 0A 1 01 A0 2147483648 02 FF 3"),
+    # "a refused call changes nothing that is carried": 3 and 17, then 9 of a full book
+    ("ask 02 00 00 00 09", "3"),
+    ("ask 0A 00 00 00 09", "17"),
+    ("book_show", "0 last 1 held 00 0A 1 01 A0 2147483648 02 FF 3"),
+    ("book_set FE /" + " A1" * 256 + " /" + " 00 00 01 00" * 256, "0"),
+    ("ask 09 00 00 00 09", "9"),
+    ("book_show", "0 last 254 held " + " ".join("%02X A1 256" % number for number in range(256))),
+    # "every such number is freed", 255 and 0 too; the next number is the first one behind the last
+    ("give_up 00 00 02 00 00 00 01 00", "0 freed 0"),
+    ("give_up 00 00 02 01 00 00 01 00", "0 freed 256"),
+    ("book_show", "0 last 254 held"),
+    ("ask 09 00 00 00 09", "0 number 255"),
+    ("ask 09 00 00 00 0A", "0 number 0"),
+    ("book_show", "0 last 0 held 00 09 10 FF 09 9"),
+    ("give_up 00 00 00 0A 00 00 00 00", "0 freed 1"),
+    ("book_show", "0 last 0 held 00 09 10"),
+    # the groups: 5, 8, and 1 / at most 256 / at most 1024
+    ("ask 09", "? wrong number of bytes"),
+    ("ask 09 00 00 0A", "? wrong number of bytes"),
+    ("ask 09 00 00 00 0A 00", "? wrong number of bytes"),
+    ("ask 09 / 00 00 00 0A", "? wrong number of groups"),
+    ("give_up", "? wrong number of bytes"),
+    ("give_up 00 00 00 0A 00 00 00", "? wrong number of bytes"),
+    ("give_up 00 00 00 0A / 00 00 00 00", "? wrong number of groups"),
+    ("book_set 00 / 09", "? wrong number of groups"),
+    ("book_set 00 / 09 / 00 / 00", "? wrong number of groups"),
+    ("book_set 00 /" + " 09" * 257 + " /", "? wrong number of bytes"),
+    ("book_set 00 / /" + " 09" * 1025, "? wrong number of bytes"),
+    ("book_show", "0 last 0 held 00 09 10"),
+    ("book_set 00 / /" + " 09" * 1024, "0"),
+    ("book_show", "0 last 0 held"),
     # W-206: "two target bytes"; source 002's own examples have them, with what it says of each byte
     ("event_two 5A 43 7C BA CC 2F 40 2E 00 3B 00 01 05 6D",
      "0 mac 7C BA CC 2F 40 2E target 59 type 0 BUTTON_PRESS n 1 instance 5"),
@@ -495,34 +566,34 @@ STATED_LATER = [
     ("relay_request 04 00 0B 00 00 00 00 0F / FF FF FF FF FF FF FF FF", "0 count 8 before FF FF FF FF FF FF FF FF after 04 00 0B 00 00 00 00 0F"),
     # asking: 17, and nothing moves
     ("book_fresh", "0"),
-    ("ask 0A", "17"),
+    ("ask 0A 00 00 00 01", "17"),
     ("book_show", "0 last 255 held"),
-    ("ask 09", "0 number 0"),
-    ("ask 0A", "17"),
-    ("ask 02", "3"),
-    ("ask 13", "3"),
-    ("ask 0B", "0 number 1"),
-    ("book_show", "0 last 1 held 00 09 01 0B"),
+    ("ask 09 00 00 00 02", "0 number 0"),
+    ("ask 0A 00 00 00 03", "17"),
+    ("ask 02 00 00 00 04", "3"),
+    ("ask 13 00 00 00 05", "3"),
+    ("ask 0B 00 00 00 06", "0 number 1"),
+    ("book_show", "0 last 1 held 00 09 2 01 0B 6"),
     # "a book entry already asked with 0A still takes its reply", once; until then its number is held
-    ("book_set 00 / 0A 0A 09 0A 00 0A", "0"),
-    ("ask 0A", "17"),
-    ("ask 0B", "0 number 4"),
+    ("book_set 00 / 0A 0A 09 0A 00 0A / 00 00 00 09", "0"),
+    ("ask 0A 00 00 00 01", "17"),
+    ("ask 0B 00 00 00 02", "0 number 4"),
     ("answer 01", "0 command 0A"),
     ("answer 01", "10"),
-    ("ask 09", "0 number 6"),
+    ("ask 09 00 00 00 03", "0 number 6"),
     ("answer 03", "0 command 0A"),
-    ("ask 0A", "17"),
-    ("book_show", "0 last 6 held 00 0A 02 09 04 0B 05 0A 06 09"),
+    ("ask 0A 00 00 00 04", "17"),
+    ("book_show", "0 last 6 held 00 0A 9 02 09 0 04 0B 2 05 0A 0 06 09 3"),
     # a full book: 17 before 9
-    ("book_set 07 /" + " 0A" * 256, "0"),
-    ("ask 0A", "17"),
-    ("ask 09", "9"),
-    ("ask 02", "3"),
+    ("book_set 07 /" + " 0A" * 256 + " /", "0"),
+    ("ask 0A 00 00 00 01", "17"),
+    ("ask 09 00 00 00 02", "9"),
+    ("ask 02 00 00 00 03", "3"),
     ("answer 08", "0 command 0A"),
-    ("ask 0A", "17"),
-    ("ask 09", "0 number 8"),
-    ("ask 0A", "17"),
-    ("ask 09", "9"),
+    ("ask 0A 00 00 00 04", "17"),
+    ("ask 09 00 00 00 05", "0 number 8"),
+    ("ask 0A 00 00 00 06", "17"),
+    ("ask 09 00 00 00 07", "9"),
     # `known 0A`, `shape 0A`, `fits` with 0A and lines are as before; so is its name
     ("known 0A", "0 known"),
     ("shape 0A", "0 basic bare"),
@@ -1121,7 +1192,7 @@ class SelfTest(unittest.TestCase):
             book = opinion.Book(last, bytes(held))
             for _ in range(30):
                 command, number = chance.pick([0x0A, 0x09, chance.below(256)]), chance.below(256)
-                asked = answered(book.ask, command)
+                asked = answered(book.ask, command, 0)
                 free = [place for place in list(range(last + 1, 256)) + list(range(last + 1)) if held[place] not in known]
                 if command not in known:
                     self.assertEqual(asked, (3, None))
@@ -1152,6 +1223,84 @@ class SelfTest(unittest.TestCase):
                 self.assertEqual(answer.endswith(" retired"), number == 0 and run[2] == 0x0A)
                 marked += answer.endswith(" retired")
         self.assertGreater(marked, 100)
+
+    def test_ages_tick_by_tick(self):
+        # from the tick asked, one is added until it is now, 4294967295 and one more being 0: so often is the age
+        for start in [0, 1, 2 ** 31 - 30, 2 ** 32 - 60, 2 ** 32 - 1]:
+            for steps in range(60):
+                now = start
+                for _ in range(steps):
+                    now = 0 if now == 4294967295 else now + 1
+                self.assertEqual(opinion.age(now, start), steps)
+                # back again it is the rest of the round, but for no step at all
+                self.assertEqual(opinion.age(start, now), 2 ** 32 - steps if steps else 0)
+                for limit in [steps - 1, steps, steps + 1]:
+                    if limit >= 0:
+                        book = opinion.Book()
+                        book.ask(0x09, start)
+                        self.assertEqual((book.give_up(now, limit), book.held[0]), (1, 0) if limit < steps else (0, 0x09))
+
+    def test_giving_up_counted(self):
+        # a book kept beside it as pairs, on which giving up is one walk over the numbers
+        chance = cases.Chance(27)
+        freed, numbers = set(), set()
+        for _ in range(300):
+            now = chance.pick([0, 50, 2 ** 31, 2 ** 32 - 50, chance.below(2 ** 32)])
+            strange = chance.pick([1, 4, 100])
+            held = [(chance.below(256) if chance.one_in(strange) else chance.pick(cases.ALL_KNOWN), (now - chance.below(100)) % 2 ** 32)
+                    for _ in range(256)]
+            last = chance.below(256)
+            book = opinion.Book(last, bytes(command for command, _ in held), cases.in_bytes(tick for _, tick in held))
+            for _ in range(12):
+                now = (now + chance.below(30) - chance.pick([0, 0, 0, 40])) % 2 ** 32
+                limit = chance.pick([0, 10, 50, 99, 120, 2 ** 32 - 41, 2 ** 32 - 1, chance.below(2 ** 32)])
+                count = 0
+                for number, (command, tick) in enumerate(held):
+                    since = now - tick if now >= tick else now + 2 ** 32 - tick
+                    if command in cases.ALL_KNOWN and since > limit:
+                        held[number] = 0, tick
+                        count += 1
+                self.assertEqual(book.give_up(now, limit), count)
+                self.assertEqual(book.give_up(now, limit), 0)
+                freed.add(count)
+                command, number = chance.below(256) if chance.one_in(5) else chance.pick(cases.ALL_KNOWN), chance.below(256)
+                asked = answered(book.ask, command, now)
+                if asked[0] == 0:
+                    last = asked[1]
+                    held[last] = command, now
+                if answered(book.answer, number)[0] == 0:
+                    held[number] = 0, held[number][1]
+                numbers.add(asked[0])
+                self.assertEqual((book.last, list(zip(book.held, book.ticks))), (last, held))
+        self.assertEqual(numbers, {0, 3, 9, 17})
+        self.assertTrue({0, 1, 256} < freed and len(freed) > 50)
+
+    def test_asking_and_replying_without_ticks(self):
+        # "their numbers, order and refusals stay": whatever the ticks are
+        chance = cases.Chance(28)
+        for _ in range(60):
+            held, last = bytes(chance.pick([0x0A, 0x40, 0x40, chance.below(256)]) for _ in range(256)), chance.below(256)
+            books = opinion.Book(last, held), opinion.Book(last, held, chance.run(chance.below(1025)))
+            for _ in range(60):
+                command, number = chance.pick([0x09, chance.below(256)]), chance.below(256)
+                self.assertEqual(*[answered(book.ask, command, tick) for book, tick in zip(books, [0, chance.below(2 ** 32)])])
+                self.assertEqual(*[answered(book.answer, number) for book in books])
+                self.assertEqual(*[(book.last, book.held) for book in books])
+
+    def test_kinds_with_ticks(self):
+        # the same lines, wherever and how often a kind is made
+        for kind in [cases.book, cases.colours, cases.retired_command, cases.table_of_commands, cases.no_table_calls, cases.giving_up]:
+            self.assertEqual(list(kind()), list(kind()))
+        # ticks of every size, and not all of them 0
+        lines = list(cases.book())
+        asked = {line.split(" ", 2)[2] for line in lines if line[:4] == "ask "}
+        self.assertGreater(len(asked), 1000)
+        sizes = {len(opinion.grouped(line.encode("ascii").split()[1:])[2]) for line in lines if line[:8] == "book_set"}
+        self.assertTrue({0, 1, 2, 4, 7, 12, 30, 1024} <= sizes)
+        # giving up is asked of every number alone, and of all of them
+        bench = opinion.Bench()
+        answers = [bench.answer(line.encode("ascii")) for line in cases.giving_up()]
+        self.assertTrue({"0 freed %d" % count for count in [0, 1, 2, 3, 33, 255, 256]} <= set(answers))
 
     def test_commands_inside(self):
         self.assertEqual({command for command in range(256) if opinion.inside(command)}, QUERIES)

@@ -13,6 +13,7 @@ use bench_parts::Fit;
 use bench_parts::Part;
 use bench_requests::Asked;
 use book::Book;
+use book::Timed;
 use by_parts::SoFar;
 use colour::Colour;
 use command::Shape;
@@ -31,7 +32,7 @@ use target::LineTarget;
 
 // What the run carries from call to call. The bytes of the capture's buffer are lent beside it: they stand at the front of a larger one.
 pub struct State {
-    book: Book,
+    book: Timed,
     request: Held,
     reply: Held,
     capture: Carried,
@@ -45,7 +46,7 @@ pub struct Turn {
 }
 
 struct BookTurn {
-    book: Book,
+    book: Timed,
     page: Page,
 }
 
@@ -111,7 +112,7 @@ fn write_colour(n: usize, head: &[u8], buffer: &mut [u8]) -> Wrote {
         },
     };
     let target = LineTarget(bench_words::byte_at(head, 1));
-    writers::colour(
+    request_writers::colour(
         profile_of(n),
         bench_words::byte_at(head, 0),
         target,
@@ -137,12 +138,12 @@ fn write(n: usize, head: &[u8], data: &[u8], buffer: &mut [u8]) -> Wrote {
                 c: e,
                 d: f,
             };
-            writers::basic(profile_of(n), a, b, arguments, buffer)
+            request_writers::basic(profile_of(n), a, b, arguments, buffer)
         }
         0x71 | 0x7B => {
             let port = bench_words::wide16(bench_words::part(head, 1, 3));
             let address = Ipv4(d, e, f, bench_words::byte_at(head, 6));
-            writers::unicast(profile_of(n), a, port, address, buffer)
+            request_writers::unicast(profile_of(n), a, port, address, buffer)
         }
         0x72 => relay::request(head, buffer),
         0x73 => relay::reply(head, buffer),
@@ -270,39 +271,48 @@ fn plain(n: usize, s: &[u8], t: &[u8], u: &[u8], out: &mut [u8], at: usize) -> u
     }
 }
 
-fn page(n: usize, b: Book, s: &[u8], t: &[u8]) -> BookTurn {
+// A call that the book is lent to: it asks, replies or gives up.
+fn lent_to(n: usize, b: Timed, s: &[u8]) -> BookTurn {
+    let before = b.book;
+    let mut asked = before.asked;
+    let mut last = before.last;
+    let mut ticks = b.ticks;
     let first = bench_words::byte_at(s, 0);
+    let page = match n {
+        0x42 => {
+            let tick = bench_words::wide32(bench_words::part(s, 1, 5));
+            Page::Number(book::ask(&mut asked, &mut last, &mut ticks, first, tick))
+        }
+        0x43 => Page::Command(book::reply(&mut asked, first)),
+        _ => {
+            let limit = bench_words::wide32(bench_words::part(s, 4, 8));
+            Page::GivenUp(book::give_up(&mut asked, &ticks, bench_words::wide32(s), limit))
+        }
+    };
+    BookTurn {
+        book: Timed {
+            book: Book { asked, last },
+            ticks,
+        },
+        page,
+    }
+}
+
+fn page(n: usize, b: Timed, s: &[u8], t: &[u8], u: &[u8]) -> BookTurn {
     match n {
         0x40 => BookTurn {
             book: book::fresh(),
             page: Page::Done,
         },
         0x41 => BookTurn {
-            book: bench_book::handed(first, t),
+            book: bench_book::handed(bench_words::byte_at(s, 0), t, u),
             page: Page::Done,
         },
-        0x42 => {
-            let a = book::ask(b, first);
-            let answer = a.answer;
-            let book = a.book;
-            BookTurn {
-                book,
-                page: Page::Number(answer),
-            }
-        }
-        0x43 => {
-            let a = book::reply(b, first);
-            let answer = a.answer;
-            let book = a.book;
-            BookTurn {
-                book,
-                page: Page::Command(answer),
-            }
-        }
-        _ => BookTurn {
+        0x44 => BookTurn {
             book: b,
             page: Page::Book,
         },
+        _ => lent_to(n, b, s),
     }
 }
 
@@ -352,7 +362,7 @@ fn line(n: usize, l: Line, h: Held, s: &[u8], t: &[u8]) -> LineTurn {
 }
 
 // What a call makes of the state, by its family, the first digit of its number.
-fn moved(n: usize, state: State, s: &[u8], t: &[u8]) -> After {
+fn moved(n: usize, state: State, s: &[u8], t: &[u8], u: &[u8]) -> After {
     let b = state.book;
     let q = state.request;
     let r = state.reply;
@@ -360,7 +370,7 @@ fn moved(n: usize, state: State, s: &[u8], t: &[u8]) -> After {
     let so_far = state.so_far;
     match n / 16 {
         4 => {
-            let p = page(n, b, s, t);
+            let p = page(n, b, s, t, u);
             let book = p.book;
             let answer = p.page;
             After {
@@ -579,7 +589,7 @@ fn made(c: Call, state: State, bytes: &[u8], store: &mut [u8], out: &mut [u8], a
     if n / 16 == 13 {
         return reported(n, state, s, store, out, at);
     }
-    let a = moved(n, state, s, t);
+    let a = moved(n, state, s, t, u);
     let next = a.state;
     Turn {
         state: next,

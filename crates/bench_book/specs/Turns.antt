@@ -7,10 +7,11 @@ use native.Mathlib.Numerals.{add-one}
 use native.Mathlib.Omega.{arith}
 use Rattle.bench_book.specs.Pages.{entryTexts, entriesTexts}
 
-pub entries-turn : (s : List ℕ) (i : ℕ) → i < 256 → entriesTexts (256 - i) i s ≡ entryTexts i (getD s i 0) ++ entriesTexts (256 - (i + 1)) (i + 1) s
+pub entries-turn : (s ts : List ℕ) (i : ℕ) → i < 256
+    → entriesTexts (256 - i) i s ts ≡ entryTexts i (getD s i 0) (getD ts i 0) ++ entriesTexts (256 - (i + 1)) (i + 1) s ts
 unfolding entriesTexts
-entries-turn s i h = let e : 256 - i ≡ suc (256 - (i + 1)) = omega arith in rw (e, add-one)
+entries-turn s ts i h = let e : 256 - i ≡ suc (256 - (i + 1)) = omega arith in rw (e, add-one)
 
-pub entries-done : (s : List ℕ) (i : ℕ) → 256 ≤ i → entriesTexts (256 - i) i s ≡ []
+pub entries-done : (s ts : List ℕ) (i : ℕ) → 256 ≤ i → entriesTexts (256 - i) i s ts ≡ []
 unfolding entriesTexts
-entries-done s i h = let e : 256 - i ≡ 0 = omega arith in rw e
+entries-done s ts i h = let e : 256 - i ≡ 0 = omega arith in rw e

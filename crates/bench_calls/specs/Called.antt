@@ -28,19 +28,22 @@ rowNamed line = rowOf (take (nameEnd line - nameStart line) (drop (nameStart lin
 
 -- the digits of a row
 abbrev pub callIn : ℕ → ℕ
-callIn row = row / 0x10_000_000_000
+callIn row = row / 0x10_000_000_000_000
 
 abbrev pub groupsIn : ℕ → ℕ
-groupsIn row = row / 0x1_000_000_000 % 16
+groupsIn row = row / 0x1_000_000_000_000 % 16
 
 abbrev pub leastIn : ℕ → ℕ
-leastIn row = row / 0x1_000_000 % 0x1000
+leastIn row = row / 0x1_000_000_000 % 0x1000
 
 abbrev pub mostIn : ℕ → ℕ
-mostIn row = row / 0x1000 % 0x1000
+mostIn row = row / 0x1_000_000 % 0x1000
 
 abbrev pub secondIn : ℕ → ℕ
-secondIn row = row % 0x1000
+secondIn row = row / 0x1000 % 0x1000
+
+abbrev pub thirdIn : ℕ → ℕ
+thirdIn row = row % 0x1000
 
 -- "another number of groups than the call has", "a group of another size than the call says"; else the call
 abbrev pub measuredOf : ℕ → Groups → Called
@@ -50,7 +53,9 @@ measuredOf row g =
     (pick (ltb (mostIn row) (g .a)) WrongBytes
     (pick (ltb (g .b) (g .a)) WrongBytes
     (pick (ltb (secondIn row) (g .b - g .a)) WrongBytes
-    (A-call (record { number = callIn row; groups = g }))))))
+    (pick (ltb (g .c) (g .b)) WrongBytes
+    (pick (ltb (thirdIn row) (g .c - g .b)) WrongBytes
+    (A-call (record { number = callIn row; groups = g }))))))))
     WrongGroups
 
 -- "a word behind the name that is neither a byte nor `/`"

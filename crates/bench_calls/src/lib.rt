@@ -25,111 +25,111 @@ pub enum Called {
 }
 
 // A row for each call: its number, how many groups it takes, how many bytes the first has at least and at most, and how
-// many the second has at most, as digits of one hexadecimal number. FFF is more than a line can name. A third group may
-// have any. The first digit of a call's number is its family: what is answered of it is of one kind. (7 and 8 write into a
+// many the second and the third have at most, as digits of one hexadecimal number. FFF is more than a line can name. The first digit of a call's number is its family: what is answered of it is of one kind. (7 and 8 write into a
 // buffer, which is their last group of two or of three; A gives the data of a datagram.) New calls stand behind those of theirs.
-const ROWS: [usize; 89] = [
+const ROWS: [usize; 90] = [
     // Datagrams
-    0x10_1_000_FFF_FFF, // request
-    0x70_2_006_006_FFF, // write_basic
-    0x71_2_007_007_FFF, // write_unicast
-    0x77_2_007_007_FFF, // write_colour_xy
-    0x78_2_005_005_FFF, // write_colour_tc
-    0x79_2_009_009_FFF, // write_colour_rgbwaf
-    0x7A_2_006_006_FFF, // write_basic_quiet
-    0x7B_2_007_007_FFF, // write_unicast_quiet
-    0x7C_2_007_007_FFF, // write_colour_xy_quiet
-    0x7D_2_005_005_FFF, // write_colour_tc_quiet
-    0x7E_2_009_009_FFF, // write_colour_rgbwaf_quiet
-    0x90_1_000_FFF_FFF, // reply
-    0xA0_1_000_FFF_FFF, // reply_data
-    0x91_1_000_FFF_FFF, // error_code
-    0x80_3_002_002_FFF, // write_reply
-    0x92_1_000_FFF_FFF, // event
-    0xA1_1_000_FFF_FFF, // event_data
-    0x81_3_00B_00B_FFF, // write_event
-    0x94_1_000_FFF_FFF, // event_two
-    0xA2_1_000_FFF_FFF, // event_two_data
-    0x83_3_00B_00B_FFF, // write_event_two
-    0x72_2_000_FFF_FFF, // relay_request
-    0x73_2_000_FFF_FFF, // relay_reply
-    0x74_2_000_FFF_FFF, // relay_event
-    0x76_2_000_FFF_FFF, // relay_event_two
+    0x10_1_000_FFF_FFF_FFF, // request
+    0x70_2_006_006_FFF_FFF, // write_basic
+    0x71_2_007_007_FFF_FFF, // write_unicast
+    0x77_2_007_007_FFF_FFF, // write_colour_xy
+    0x78_2_005_005_FFF_FFF, // write_colour_tc
+    0x79_2_009_009_FFF_FFF, // write_colour_rgbwaf
+    0x7A_2_006_006_FFF_FFF, // write_basic_quiet
+    0x7B_2_007_007_FFF_FFF, // write_unicast_quiet
+    0x7C_2_007_007_FFF_FFF, // write_colour_xy_quiet
+    0x7D_2_005_005_FFF_FFF, // write_colour_tc_quiet
+    0x7E_2_009_009_FFF_FFF, // write_colour_rgbwaf_quiet
+    0x90_1_000_FFF_FFF_FFF, // reply
+    0xA0_1_000_FFF_FFF_FFF, // reply_data
+    0x91_1_000_FFF_FFF_FFF, // error_code
+    0x80_3_002_002_FFF_FFF, // write_reply
+    0x92_1_000_FFF_FFF_FFF, // event
+    0xA1_1_000_FFF_FFF_FFF, // event_data
+    0x81_3_00B_00B_FFF_FFF, // write_event
+    0x94_1_000_FFF_FFF_FFF, // event_two
+    0xA2_1_000_FFF_FFF_FFF, // event_two_data
+    0x83_3_00B_00B_FFF_FFF, // write_event_two
+    0x72_2_000_FFF_FFF_FFF, // relay_request
+    0x73_2_000_FFF_FFF_FFF, // relay_reply
+    0x74_2_000_FFF_FFF_FFF, // relay_event
+    0x76_2_000_FFF_FFF_FFF, // relay_event_two
     // Parts of datagrams
-    0x20_1_000_FFF_FFF, // sum
-    0x82_3_000_FFF_FFF, // frame
-    0x21_1_001_001_FFF, // known
-    0x22_1_001_001_FFF, // shape
-    0x23_1_005_005_FFF, // fits
-    0x28_1_001_001_FFF, // inside
-    0x2A_1_001_001_FFF, // table
-    0x24_1_001_001_FFF, // error_name
-    0x93_1_001_001_FFF, // event_type
-    0x25_1_001_001_FFF, // group_target
-    0x11_1_001_001_FFF, // lights
-    0x12_1_001_001_FFF, // status
-    0x26_1_001_001_FFF, // device
-    0x27_1_001_001_FFF, // device_number
-    0x75_2_002_002_FFF, // name
+    0x20_1_000_FFF_FFF_FFF, // sum
+    0x82_3_000_FFF_FFF_FFF, // frame
+    0x21_1_001_001_FFF_FFF, // known
+    0x22_1_001_001_FFF_FFF, // shape
+    0x23_1_005_005_FFF_FFF, // fits
+    0x28_1_001_001_FFF_FFF, // inside
+    0x2A_1_001_001_FFF_FFF, // table
+    0x24_1_001_001_FFF_FFF, // error_name
+    0x93_1_001_001_FFF_FFF, // event_type
+    0x25_1_001_001_FFF_FFF, // group_target
+    0x11_1_001_001_FFF_FFF, // lights
+    0x12_1_001_001_FFF_FFF, // status
+    0x26_1_001_001_FFF_FFF, // device
+    0x27_1_001_001_FFF_FFF, // device_number
+    0x75_2_002_002_FFF_FFF, // name
     // Reply data
-    0x30_1_002_002_FFF, // high_first
-    0x31_1_000_FFF_FFF, // mask
-    0x32_1_002_002_FFF, // count_types
-    0x33_1_002_002_FFF, // lowest_type
-    0x34_1_000_FFF_FFF, // scenes
-    0x35_1_000_FFF_FFF, // gear
-    0x36_1_008_008_FFF, // count_gear
-    0x37_1_008_008_FFF, // lowest_gear
-    0x38_1_000_FFF_FFF, // types
-    0x39_1_000_FFF_FFF, // filters
-    0x3A_2_008_008_FFF, // filter
+    0x30_1_002_002_FFF_FFF, // high_first
+    0x31_1_000_FFF_FFF_FFF, // mask
+    0x32_1_002_002_FFF_FFF, // count_types
+    0x33_1_002_002_FFF_FFF, // lowest_type
+    0x34_1_000_FFF_FFF_FFF, // scenes
+    0x35_1_000_FFF_FFF_FFF, // gear
+    0x36_1_008_008_FFF_FFF, // count_gear
+    0x37_1_008_008_FFF_FFF, // lowest_gear
+    0x38_1_000_FFF_FFF_FFF, // types
+    0x39_1_000_FFF_FFF_FFF, // filters
+    0x3A_2_008_008_FFF_FFF, // filter
     // The book of unanswered requests
-    0x40_1_000_000_FFF, // book_fresh
-    0x41_2_001_001_100, // book_set
-    0x42_1_001_001_FFF, // ask
-    0x43_1_001_001_FFF, // answer
-    0x44_1_000_000_FFF, // book_show
+    0x40_1_000_000_FFF_FFF, // book_fresh
+    0x41_3_001_001_100_400, // book_set
+    0x42_1_005_005_FFF_FFF, // ask
+    0x43_1_001_001_FFF_FFF, // answer
+    0x45_1_008_008_FFF_FFF, // give_up
+    0x44_1_000_000_FFF_FFF, // book_show
     // Lines: the request line, the reply line
-    0x50_1_000_000_FFF, // fresh_request
-    0x51_2_008_008_043, // hold_request
-    0x52_1_000_FFF_FFF, // feed_request
-    0x53_1_000_000_FFF, // close_request
-    0x54_1_000_000_FFF, // show_request
-    0x55_1_000_FFF_FFF, // settle_request
-    0x56_2_001_001_FFF, // item_request
-    0x60_1_000_000_FFF, // fresh_reply
-    0x61_2_008_008_043, // hold_reply
-    0x62_1_000_FFF_FFF, // feed_reply
-    0x63_1_000_000_FFF, // close_reply
-    0x64_1_000_000_FFF, // show_reply
-    0x65_1_000_FFF_FFF, // settle_reply
-    0x66_2_001_001_FFF, // item_reply
-    0x29_1_000_FFF_FFF, // quiet
+    0x50_1_000_000_FFF_FFF, // fresh_request
+    0x51_2_008_008_043_FFF, // hold_request
+    0x52_1_000_FFF_FFF_FFF, // feed_request
+    0x53_1_000_000_FFF_FFF, // close_request
+    0x54_1_000_000_FFF_FFF, // show_request
+    0x55_1_000_FFF_FFF_FFF, // settle_request
+    0x56_2_001_001_FFF_FFF, // item_request
+    0x60_1_000_000_FFF_FFF, // fresh_reply
+    0x61_2_008_008_043_FFF, // hold_reply
+    0x62_1_000_FFF_FFF_FFF, // feed_reply
+    0x63_1_000_000_FFF_FFF, // close_reply
+    0x64_1_000_000_FFF_FFF, // show_reply
+    0x65_1_000_FFF_FFF_FFF, // settle_reply
+    0x66_2_001_001_FFF_FFF, // item_reply
+    0x29_1_000_FFF_FFF_FFF, // quiet
     // The capture
-    0xC0_2_008_008_514, // capture_set
-    0xC1_1_03A_03A_FFF, // summary_set
-    0xC2_1_00D_00D_FFF, // mark_set
-    0xC3_1_001_001_FFF, // capture_empty
-    0xC4_2_004_004_FFF, // capture_append
-    0xC5_2_004_004_FFF, // capture_append_at
-    0xCB_2_004_004_FFF, // capture_run
-    0xCC_2_004_004_FFF, // capture_run_at
-    0xC6_1_000_000_FFF, // capture_open
-    0xC7_1_000_000_FFF, // capture_count
-    0xC8_1_000_000_FFF, // capture_prefix
-    0xC9_1_008_008_FFF, // capture_record
-    0xCA_1_000_000_FFF, // capture_show
+    0xC0_2_008_008_514_FFF, // capture_set
+    0xC1_1_03A_03A_FFF_FFF, // summary_set
+    0xC2_1_00D_00D_FFF_FFF, // mark_set
+    0xC3_1_001_001_FFF_FFF, // capture_empty
+    0xC4_2_004_004_FFF_FFF, // capture_append
+    0xC5_2_004_004_FFF_FFF, // capture_append_at
+    0xCB_2_004_004_FFF_FFF, // capture_run
+    0xCC_2_004_004_FFF_FFF, // capture_run_at
+    0xC6_1_000_000_FFF_FFF, // capture_open
+    0xC7_1_000_000_FFF_FFF, // capture_count
+    0xC8_1_000_000_FFF_FFF, // capture_prefix
+    0xC9_1_008_008_FFF_FFF, // capture_record
+    0xCA_1_000_000_FFF_FFF, // capture_show
     // Seasons
-    0xD0_1_017_017_FFF, // seasons
-    0xD1_1_017_017_FFF, // seasons_begin
-    0xD2_1_000_FFF_FFF, // seasons_part
-    0xD3_1_000_000_FFF, // seasons_end
+    0xD0_1_017_017_FFF_FFF, // seasons
+    0xD1_1_017_017_FFF_FFF, // seasons_begin
+    0xD2_1_000_FFF_FFF_FFF, // seasons_part
+    0xD3_1_000_000_FFF_FFF, // seasons_end
     // Help
-    0xB0_1_000_000_FFF, // help
+    0xB0_1_000_000_FFF_FFF, // help
 ];
 
 // Their names, in the order of the rows, with a blank between two.
-const NAMES: [u8; 1020] =
+const NAMES: [u8; 1028] =
     *b"request write_basic write_unicast write_colour_xy write_colour_tc write_colour_rgbwaf \
 write_basic_quiet write_unicast_quiet write_colour_xy_quiet write_colour_tc_quiet \
 write_colour_rgbwaf_quiet reply reply_data error_code write_reply event event_data \
@@ -137,7 +137,7 @@ write_event event_two event_two_data write_event_two relay_request relay_reply \
 relay_event relay_event_two sum frame known shape fits inside table error_name \
 event_type group_target lights status device device_number name high_first mask \
 count_types lowest_type scenes gear count_gear lowest_gear types filters filter \
-book_fresh book_set ask answer book_show fresh_request hold_request feed_request \
+book_fresh book_set ask answer give_up book_show fresh_request hold_request feed_request \
 close_request show_request settle_request item_request fresh_reply hold_reply \
 feed_reply close_reply show_reply settle_reply item_reply quiet capture_set summary_set \
 mark_set capture_empty capture_append capture_append_at capture_run capture_run_at \
@@ -183,7 +183,7 @@ fn row_of(name: &[u8]) -> usize
     ensures { λ r. ⌜ r ≡ rowOf (now (name .entry)) ⌝ }
 {
     let k = place(&NAMES, name);
-    if k < 89 { ROWS[k] } else { 0 }
+    if k < 90 { ROWS[k] } else { 0 }
 }
 
 // Whether the groups are those that the row asks for.
@@ -192,23 +192,30 @@ fn measured(row: usize, g: Groups) -> Called
 {
     let a = g.a;
     let b = g.b;
-    if row / 0x1_000_000_000 % 16 != g.count {
+    let c = g.c;
+    if row / 0x1_000_000_000_000 % 16 != g.count {
         return Called::WrongGroups;
     }
-    if a < row / 0x1_000_000 % 0x1000 {
+    if a < row / 0x1_000_000_000 % 0x1000 {
         return Called::WrongBytes;
     }
-    if row / 0x1000 % 0x1000 < a {
+    if row / 0x1_000_000 % 0x1000 < a {
         return Called::WrongBytes;
     }
     if b < a {
         return Called::WrongBytes;
     }
-    if row % 0x1000 < b - a {
+    if row / 0x1000 % 0x1000 < b - a {
+        return Called::WrongBytes;
+    }
+    if c < b {
+        return Called::WrongBytes;
+    }
+    if row % 0x1000 < c - b {
         return Called::WrongBytes;
     }
     Called::Call(Call {
-        number: row / 0x10_000_000_000,
+        number: row / 0x10_000_000_000_000,
         groups: g,
     })
 }

@@ -1,16 +1,16 @@
 -- Laws of places: where a search stands, and the words behind it.
-use Prim.Native.Nat.{ℕ, zero, suc, _+_, _-_, _≤_, _<_}
-use mathlib.Core.Path.{_≡_, sym, ap, _∙_}
+use Prim.Native.Nat.{ℕ, suc, _+_, _-_, _≤_, _<_}
+use mathlib.Core.Path.{_≡_, refl, sym, ap, _∙_}
 use mathlib.Core.Bool.{Bool, true, false}
 use mathlib.Core.List.{List, [], _∷_}
-use lib.ListN.{length, getD, take, drop, set, drop-of-length-le}
+use lib.ListN.{length, getD, take, drop, set, length-drop, drop-of-length-le}
 use lib.Seq.{drop-cons, take-suc-set, take-length}
-use lib.Dec.{eqb}
-use borrow.Author.Tests.{eq-eqb, ne-eqb}
+use lib.Dec.{eqb, ltb}
+use borrow.Author.Tests.{eq-eqb, ne-eqb, le-ltb, ltb-true}
 use native.Mathlib.Numerals.{add-one}
 use native.Mathlib.Omega.{arith}
 use Rattle.refusal.specs.Test.{pick}
-use Rattle.bench_words.specs.Words.{blanks, frontOf}
+use Rattle.bench_words.specs.Words.{blanks, partOf, madeBy}
 
 -- a search for the first place without a blank: one byte further, or found, or at the end
 pub blanks-on : (s : List ℕ) (i : ℕ) → i < length s → getD s i 0 ≡ 32 → blanks (drop i s) ≡ suc (blanks (drop (i + 1) s))
@@ -35,10 +35,18 @@ blanks-most (c ∷ s) = go (eqb c 32) (blanks-most s)
     go true h = omega arith
     go false h = omega arith
 
--- a front put down byte by byte: one byte more, and all of it
-pub front-turn : (n : ℕ) (s b : List ℕ) → n < length b → take n b ≡ frontOf n s → take (n + 1) (set b n (getD s n 0)) ≡ frontOf (n + 1) s
-unfolding frontOf
-front-turn n s b h e = rw (add-one, take-suc-set b n (getD s n 0) h, e)
+-- what a rule has, put down place by place: one more, and all of it
+pub made-turn : (rule : ℕ → ℕ) (n : ℕ) (b : List ℕ) → n < length b → take n b ≡ madeBy rule n → take (n + 1) (set b n (rule n)) ≡ madeBy rule (n + 1)
+unfolding madeBy
+made-turn rule n b h e = rw (add-one, take-suc-set b n (rule n) h, e)
 
-pub front-done : (n : ℕ) (s b : List ℕ) → length b ≡ n → take n b ≡ frontOf n s → b ≡ frontOf n s
-front-done n s b l e = sym (take-length b) ∙ ap (λ (k : ℕ). take k b) l ∙ e
+pub made-done : (rule : ℕ → ℕ) (n : ℕ) (b : List ℕ) → length b ≡ n → take n b ≡ madeBy rule n → b ≡ madeBy rule n
+made-done rule n b l e = sym (take-length b) ∙ ap (λ (k : ℕ). take k b) l ∙ e
+
+-- the part from a place to the end is what stands there
+pub part-on : (s : List ℕ) (a : ℕ) → partOf s a (length s) ≡ drop a s
+part-on s a = rw (le-ltb (length s) (length s) (omega arith)) (go (ltb (length s) a) refl)
+  where
+    go : (t : Bool) → ltb (length s) a ≡ t → pick t [] (take (length s - a) (drop a s)) ≡ drop a s
+    go true e = sym (drop-of-length-le s {i = a} (omega (arith, ltb-true (length s) a e)))
+    go false e = ap (λ (k : ℕ). take k (drop a s)) (sym (length-drop a s)) ∙ take-length (drop a s)

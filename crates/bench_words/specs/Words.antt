@@ -32,7 +32,14 @@ unfoldable pub wideOf : ℕ → List ℕ → ℕ
 wideOf zero s = 0
 wideOf (suc k) s = wideOf k s * 256 + getD s k 0
 
+-- what a rule has for each of n places
+unfoldable pub madeBy : (ℕ → ℕ) → ℕ → List ℕ
+madeBy rule zero = []
+madeBy rule (suc n) = madeBy rule n ++ (rule n ∷ [])
+
 -- the first n bytes, with 0 for a byte past the end
-unfoldable pub frontOf : ℕ → List ℕ → List ℕ
-frontOf zero s = []
-frontOf (suc n) s = frontOf n s ++ (getD s n 0 ∷ [])
+abbrev pub byteIn : List ℕ → ℕ → ℕ
+byteIn s i = getD s i 0
+
+abbrev pub frontOf : ℕ → List ℕ → List ℕ
+frontOf n s = madeBy (byteIn s) n

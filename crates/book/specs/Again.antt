@@ -5,7 +5,7 @@ use mathlib.Core.Path.{_≡_, refl, sym, ap, _∙_}
 use mathlib.Core.Bool.{true, false, not}
 use mathlib.Core.List.{List, [], _∷_, List·Memᴰ, List·Memᴰ·head, List·Memᴰ·tail}
 use mathlib.Core.Logic.{_⊎_, inl, inr}
-use lib.ListN.{length, set, replicate}
+use lib.ListN.{length, replicate}
 use lib.Seq.{getD-set-other}
 use native.Mathlib.Decide.{ℕ-discrete}
 use native.Mathlib.Omega.{arith}
@@ -17,7 +17,7 @@ use Rattle.book.specs.declared.Book.{Book}
 use Rattle.book.specs.Book.{vacant, entry, holds, numberFor, noted, commandOf, freed}
 use Rattle.book.specs.Search.{search-here, between, number-full, command-full}
 use Rattle.book.specs.Run.{Call, ask, reply, answer, after, run, Line, line, history, bookOf, historyOf, Awaited, givenIn}
-use Rattle.book.specs.Sound.{vacant-free, fresh-entry, held-below, run-sound}
+use Rattle.book.specs.Sound.{vacant-free, fresh-entry, freed-entry, held-below, run-sound}
 use Rattle.book.specs.Awaited.{free-unawaited}
 
 -- where m is given before n has its turn, fewer numbers lie between m and n than did
@@ -84,11 +84,6 @@ module _ (b : Book) (n : ℕ) (hl : b .last < 256) (hn : n < 256) (free : holds 
 pub unawaited-again : (past later : List Call) (n : ℕ) → n < 256 → ((c : ℕ) → Awaited n c (historyOf past) → ⊥)
     → 256 ≤ length (givenIn (history (bookOf past) later)) → List·Memᴰ n (givenIn (history (bookOf past) later))
 unawaited-again past later n hn free = given-again (bookOf past) n (run-sound past .latest) hn (free-unawaited past n .1 free) later
-
-freed-entry : (asked : List ℕ) (n : ℕ) → entry (set asked n vacant) n ≡ vacant
-freed-entry [] n = refl
-freed-entry (a ∷ asked) zero = refl
-freed-entry (a ∷ asked) (suc n) = freed-entry asked n
 
 pub freed-again : (past later : List Call) (n c : ℕ) → answer (bookOf past) (reply n) ≡ full c
     → 256 ≤ length (givenIn (history (bookOf (reply n ∷ past)) later)) → List·Memᴰ n (givenIn (history (bookOf (reply n ∷ past)) later))

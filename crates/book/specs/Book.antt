@@ -1,7 +1,6 @@
 -- Document 01, "The book of unanswered requests": what asking and replying answer, and the book afterwards. Document 02, W-210: "17, retired,
 -- comes after 3 and before 4, in writing and asking only."
 use Prim.Native.Nat.{ℕ, zero, suc, _+_, _%_}
-use mathlib.Core.Path.{_≡_}
 use mathlib.Core.Bool.{Bool, not}
 use mathlib.Core.List.{List}
 use lib.ListN.{getD, set, replicate}
@@ -9,8 +8,6 @@ use Rattle.refusal.specs.Test.{pick}
 use Rattle.refusal.specs.Answer.{Answer, refused, full, demand}
 use Rattle.command.specs.Command.{isKnown, isRetired}
 use Rattle.book.specs.declared.Book.{Book}
-use Rattle.book.specs.declared.Asked.{Asked}
-use Rattle.book.specs.declared.Replied.{Replied}
 use Rattle.book.specs.declared.Given.{Given}
 use Rattle.book.specs.declared.Given.the-variants.{Number, Refused as given·Refused}
 use Rattle.book.specs.declared.Freed.{Freed}
@@ -71,12 +68,3 @@ saidGiven (Number n) = full n
 abbrev pub saidFreed : Freed → Answer ℕ
 saidFreed (freed·Refused k) = refused k
 saidFreed (Command c) = full c
-
--- the contracts: the answer, and the book afterwards
-pub record Asks (b : Book) (c : ℕ) (r : Asked) : Type 0 where
-  pub says : saidGiven (r .answer) ≡ numberFor b c
-  pub leaves : r .book ≡ noted b c (numberFor b c)
-
-pub record Replies (b : Book) (n : ℕ) (r : Replied) : Type 0 where
-  pub says : saidFreed (r .answer) ≡ commandOf b n
-  pub leaves : r .book ≡ freed b n (commandOf b n)

@@ -24,7 +24,7 @@ abbrev pub HeldUnder : Book → ℕ → ℕ → Type 0
 HeldUnder b n c = (isKnown c ≡ true) × (entry (b .asked) n ≡ c)
 
 -- what makes it held after the call of a line: it is asked there under n, or it was held and is not answered there
-abbrev Step : Book → ℕ → ℕ → Line → Type 0
+abbrev pub Step : Book → ℕ → ℕ → Line → Type 0
 Step b n c l = (l ≡ line (ask c) (full n)) ⊎ ((answers n l ≡ false) × HeldUnder b n c)
 
 module _ (b : Book) (s : Sound b) (n c : ℕ) where
@@ -41,7 +41,7 @@ module _ (b : Book) (s : Sound b) (n c : ℕ) where
       back (inl q) = clash (cc)
       back (inr h) = h .1
 
-  step-ask : (d : ℕ) (v : Answer ℕ) → numberFor b d ≡ v → HeldUnder (noted b d v) n c ↔ Step b n c (line (ask d) v)
+  pub step-ask : (d : ℕ) (v : Answer ℕ) → numberFor b d ≡ v → HeldUnder (noted b d v) n c ↔ Step b n c (line (ask d) v)
   step-ask d (refused k) e = step-refused (ask d) k refl
   step-ask d (full m) e = (to, from)
     where
@@ -64,7 +64,7 @@ module _ (b : Book) (s : Sound b) (n c : ℕ) where
           (rw w at (found .0), here m d (found .1 .below) (cc) ∙ w)
       from (inr h) = (h .1 .0, elsewhere m d (other (h .1)) ∙ h .1 .1)
 
-  step-reply : (m : ℕ) (v : Answer ℕ) → commandOf b m ≡ v → HeldUnder (freed b m v) n c ↔ Step b n c (line (reply m) v)
+  pub step-reply : (m : ℕ) (v : Answer ℕ) → commandOf b m ≡ v → HeldUnder (freed b m v) n c ↔ Step b n c (line (reply m) v)
   step-reply m (refused k) e = step-refused (reply m) k refl
   step-reply m (full d) e = (to, from)
     where
@@ -86,7 +86,7 @@ module _ (b : Book) (s : Sound b) (n c : ℕ) where
   step (ask d) = step-ask d (numberFor b d) refl
   step (reply m) = step-reply m (commandOf b m) refl
 
-chain : {H P Q A B : Type 0} → H ↔ (P ⊎ (Q × A)) → A ↔ B → H ↔ (P ⊎ (Q × B))
+pub chain : {H P Q A B : Type 0} → H ↔ (P ⊎ (Q × A)) → A ↔ B → H ↔ (P ⊎ (Q × B))
 chain {H} {P} {Q} {A} {B} f g = ((λ h. on (f .0 h)), λ w. f .1 (back w))
   where
     on : P ⊎ (Q × A) → P ⊎ (Q × B)

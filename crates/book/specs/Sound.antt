@@ -1,7 +1,7 @@
 -- Every book of a run from a fresh one "holds, for each sequence number 0 to 255, nothing or the command asked".
 use Prim.Native.Nat.{ℕ, zero, suc, _<_}
 use mathlib.Core.Path.{_≡_, refl, ap, _∙_}
-use mathlib.Core.Bool.{true, false}
+use mathlib.Core.Bool.{true, false, not}
 use mathlib.Core.List.{List, [], _∷_}
 use mathlib.Core.Logic.{_⊎_, inl, inr, ⊎-elim}
 use lib.ListN.{length, set, replicate, length-set, length-replicate, List·getD-eq-default}
@@ -12,14 +12,18 @@ use Rattle.refusal.specs.Answer.{Answer, refused, full}
 use Rattle.command.specs.Command.{shapeOf, isKnown}
 use Rattle.command.specs.Known.{known-byte, may-ask-known}
 use Rattle.book.specs.declared.Book.{Book}
-use Rattle.book.specs.Book.{vacant, entry, holds, freshBook, numberFor, noted, commandOf, freed}
-use Rattle.book.specs.Search.{number-full}
+use Rattle.book.specs.Book.{vacant, entry, holds, freshBook, next, firstFree, numberFor, noted, commandOf, freed}
+use Rattle.book.specs.Search.{search-here, number-full}
 use Rattle.book.specs.Run.{Call, ask, reply, after, run, bookOf}
 
 -- what stands for nothing is no known command
 pub vacant-free : isKnown vacant ≡ false
 unfolding shapeOf
 vacant-free = refl
+
+-- so a search ends with the next number where nothing stands under it
+pub next-vacant : (asked : List ℕ) (n m : ℕ) → m ≡ next n → entry asked m ≡ vacant → full m ≡ firstFree asked n 256
+next-vacant asked n m e v = search-here asked n 256 m (holds asked m) (omega arith) e refl (ap (λ (x : ℕ). not (isKnown x)) v ∙ ap not vacant-free)
 
 -- nothing, or a command
 abbrev pub IsEntry : ℕ → Type 0
@@ -43,6 +47,12 @@ pub fresh-entry : (k n : ℕ) → entry (replicate k vacant) n ≡ vacant
 fresh-entry zero n = refl
 fresh-entry (suc k) zero = refl
 fresh-entry (suc k) (suc n) = fresh-entry k n
+
+-- a number that was freed
+pub freed-entry : (asked : List ℕ) (n : ℕ) → entry (set asked n vacant) n ≡ vacant
+freed-entry [] n = refl
+freed-entry (a ∷ asked) zero = refl
+freed-entry (a ∷ asked) (suc n) = freed-entry asked n
 
 sound-fresh : Sound freshBook
 sound-fresh = record { count = length-replicate 256 vacant; entries = λ n. inl (fresh-entry 256 n); latest = omega arith }

@@ -1,14 +1,22 @@
-// The book of unanswered requests: which sequence numbers are awaited, and the command asked under each. A book goes in by
-// value and comes back beside the answer. It leans on crate command for which commands are known and which are retired.
-// Document 01, "The book of unanswered requests", with refusals 3, 9 and 10; document 02, W-210, with 17.
+// The book of unanswered requests: which sequence numbers are awaited, the command asked under each, and the tick at which it was asked. A caller
+// keeps the book and lends what a call needs of it; what a call is not lent, it cannot change. It leans on crate command for which commands are known
+// and which are retired, and on crate tick for how old a request is.
+// Document 01, "The book of unanswered requests", with refusals 3, 9 and 10; document 02, W-210, with 17, and W-205.
 ghost use mathlib.Core.Path.{_≡_};
-ghost use Rattle.book.specs.Book.{freshBook, firstFree, numberFor, saidGiven, Asks, Replies};
+ghost use Rattle.book.specs.Book.{firstFree, numberFor, saidGiven};
+ghost use Rattle.book.specs.Ticks.{book, timed, freshTimed, Asks, Replies, GivesUp};
 
 pub struct Book {
     // The command asked under each sequence number. A number that is no known command counts as nothing held.
     pub asked: [u8; 256],
     // The last sequence number given.
     pub last: u8,
+}
+
+// A book with the tick at which each request was asked. Where nothing is held under a number, its tick says nothing.
+pub struct Timed {
+    pub book: Book,
+    pub ticks: [u32; 256],
 }
 
 // What stands for nothing held where this crate writes it.
@@ -26,23 +34,16 @@ pub enum Freed {
     Refused(u8),
 }
 
-pub struct Asked {
-    pub answer: Given,
-    pub book: Book,
-}
-
-pub struct Replied {
-    pub answer: Freed,
-    pub book: Book,
-}
-
 // Nothing is held, and the first number that it gives is 0.
-pub fn fresh() -> Book
-    ensures { λ r. ⌜ r ≡ freshBook ⌝ }
+pub fn fresh() -> Timed
+    ensures { λ r. ⌜ r ≡ freshTimed ⌝ }
 {
-    Book {
-        asked: [VACANT; 256],
-        last: 255,
+    Timed {
+        book: Book {
+            asked: [VACANT; 256],
+            last: 255,
+        },
+        ticks: [0; 256],
     }
 }
 
@@ -64,8 +65,8 @@ fn first_free(asked: &[u8; 256], last: u8) -> Given
 }
 
 // The number for a request with this command. One that is not known is 3 and a retired one 17, also where no number is free.
-fn number_for(b: Book, command: u8) -> Given
-    ensures { λ r. ⌜ saidGiven r ≡ numberFor b command ⌝ }
+fn number_for(asked: &[u8; 256], last: u8, command: u8) -> Given
+    ensures { λ r. ⌜ saidGiven r ≡ numberFor (book (now (asked .entry)) last) command ⌝ }
 {
     if !command::known(command) {
         return Given::Refused(3);
@@ -73,46 +74,66 @@ fn number_for(b: Book, command: u8) -> Given
     if command::retired(command) {
         return Given::Refused(17);
     }
-    first_free(&b.asked, b.last)
+    // Nearly always nothing stands under the next number: that is told without a search.
+    let next = std::num::wrapping_add_u8(last, 1);
+    if asked[next as usize] == VACANT {
+        return Given::Number(next);
+    }
+    first_free(asked, last)
 }
 
-// Asks with a command: the number given is awaited from then on, and is the last. Where it is refused, with 3 for an unknown
-// command, 17 for a retired one or 9 where all numbers are awaited, the book is as it was.
-pub fn ask(b: Book, command: u8) -> Asked
-    ensures { λ r. ⌜ Asks b command r ⌝ }
+// Asks with a command at a tick: the number given is awaited from then on, with that tick, and is the last. Where it is refused, with 3 for an
+// unknown command, 17 for a retired one or 9 where all numbers are awaited, the book is as it was, ticks too.
+pub fn ask(
+    asked: &mut [u8; 256],
+    last: &mut u8,
+    ticks: &mut [u32; 256],
+    command: u8,
+    tick: u32,
+) -> Given
+    ensures { λ r. ⌜ Asks (timed (now (asked .entry)) (now (last .entry)) (now (ticks .entry))) command tick r (timed (now (asked .exit)) (now (last .exit)) (now (ticks .exit))) ⌝ }
 {
-    let answer = number_for(b, command);
+    let answer = number_for(asked, *last, command);
     match answer {
-        Given::Refused(_) => Asked { answer, book: b },
+        Given::Refused(_) => answer,
         Given::Number(n) => {
-            let mut noted = b;
-            noted.asked[n as usize] = command;
-            noted.last = n;
-            Asked {
-                answer,
-                book: noted,
-            }
+            asked[n as usize] = command;
+            ticks[n as usize] = tick;
+            *last = n;
+            answer
         }
     }
 }
 
 // Takes a reply's sequence number: it is free from then on, and its command is the answer, a retired one too. Where it is refused, with 10
 // for a number that is not awaited, the book is as it was.
-pub fn reply(b: Book, number: u8) -> Replied
-    ensures { λ r. ⌜ Replies b number r ⌝ }
+pub fn reply(asked: &mut [u8; 256], number: u8) -> Freed
+    ensures { λ r. ⌜ Replies (now (asked .entry)) number r (now (asked .exit)) ⌝ }
 {
     let at = number as usize;
-    let command = b.asked[at];
+    let command = asked[at];
     if !command::known(command) {
-        return Replied {
-            answer: Freed::Refused(10),
-            book: b,
-        };
+        return Freed::Refused(10);
     }
-    let mut freed = b;
-    freed.asked[at] = VACANT;
-    Replied {
-        answer: Freed::Command(command),
-        book: freed,
+    asked[at] = VACANT;
+    Freed::Command(command)
+}
+
+// Gives up each request that was asked longer ago than a limit, by the tick now: its number is free from then on. No other changes. The
+// answer is how many these were.
+pub fn give_up(asked: &mut [u8; 256], ticks: &[u32; 256], clock: u32, limit: u32) -> u16
+    ensures { λ r. ⌜ GivesUp (now (asked .entry)) (now (ticks .entry)) clock limit r (now (asked .exit)) ⌝ }
+{
+    let mut count: u16 = 0;
+    let mut n: usize = 0;
+    while n < 256 {
+        if tick::over(clock, ticks[n], limit) {
+            if command::known(asked[n]) {
+                asked[n] = VACANT;
+                count += 1;
+            }
+        }
+        n += 1;
     }
+    count
 }

@@ -1,7 +1,7 @@
 // Reply data, targets, entries of the table of commands, books and readers of lines as programs in C have them: the structs that crate wickanchor
 // takes and hands over, laid out as C does, and what turns the answers of crates maps, filters, target, table, book, line, reader and quiet_run into them,
-// and books and readers back.
-// A refusal is its number by document 01, 0 stands for none, and every other field of a refused call is 0, but for a book. Each contract is
+// and readers back.
+// A refusal is its number by document 01, 0 stands for none, and every other field of a refused call is 0. Each contract is
 // an equation over what the answer says.
 ghost use mathlib.Core.Path.{_≡_};
 ghost use Rattle.target.specs.Target.{saidLine, saidDevice, saidNumber};
@@ -13,12 +13,10 @@ ghost use Rattle.line.specs.Said.{saidAt};
 ghost use Rattle.quiet_run.specs.Scan.{saidFirst};
 ghost use Rattle.c_values.specs.Numbers.{numberOut, lineOut, deviceOut, entryOut};
 ghost use Rattle.c_values.specs.Filters.{filtersOut, filterOut};
-ghost use Rattle.c_values.specs.Books.{bookIn, bookOut, bookedBy};
+ghost use Rattle.c_values.specs.Books.{bookOut, bookedBy};
 ghost use Rattle.c_values.specs.Lines.{lineBy, readerIn, readerOut, givenOut, positionOut, quietOut};
-use book::Asked;
-use book::Book;
 use book::Freed;
-use book::Replied;
+use book::Timed;
 use filters::Found;
 use filters::Listed;
 use line::At;
@@ -66,19 +64,20 @@ pub struct WickEntry {
     pub rule: u8,
 }
 
-// A book of unanswered requests: the command asked under each sequence number, and the last number given.
+// A book of unanswered requests: the command asked under each sequence number, the last number given, and the tick at which each was asked. Its parts
+// are lent where they stand.
 #[repr(C)]
 pub struct WickBook {
     pub asked: [u8; 256],
     pub last: u8,
+    pub ticks: [u32; 256],
 }
 
-// What asking or answering gives: a sequence number or a command, and the book afterwards.
+// What asking or answering gives: a sequence number or a command.
 #[repr(C)]
 pub struct WickBooked {
     pub refusal: u8,
     pub answer: u8,
-    pub book: WickBook,
 }
 
 // A reader of a line between two calls: how many bytes it holds, and these in front.
@@ -273,62 +272,47 @@ pub fn own_out(r: Numbered) -> WickNumber
     }
 }
 
-// A book of crate book, and back.
-pub fn book_in(b: WickBook) -> Book
-    ensures { λ r. ⌜ r ≡ bookIn b ⌝ }
-{
-    let asked = b.asked;
-    Book {
-        asked,
-        last: b.last,
-    }
-}
-
-pub fn book_out(b: Book) -> WickBook
+// A book of crate book.
+pub fn book_out(b: Timed) -> WickBook
     ensures { λ r. ⌜ r ≡ bookOut b ⌝ }
 {
-    let asked = b.asked;
+    let held = b.book;
+    let asked = held.asked;
+    let ticks = b.ticks;
     WickBook {
         asked,
-        last: b.last,
+        last: held.last,
+        ticks,
     }
 }
 
-// What asking with a command and taking a reply's number answer, and the book afterwards.
-pub fn asked_out(r: Asked) -> WickBooked
-    ensures { λ w. ⌜ w ≡ bookedBy (saidGiven (r .answer)) (bookOut (r .book)) ⌝ }
+// What asking with a command and taking a reply's number answer.
+pub fn asked_out(g: book::Given) -> WickBooked
+    ensures { λ w. ⌜ w ≡ bookedBy (saidGiven g) ⌝ }
 {
-    let answer = r.answer;
-    let book = book_out(r.book);
-    match answer {
+    match g {
         book::Given::Number(n) => WickBooked {
             refusal: 0,
             answer: n,
-            book,
         },
         book::Given::Refused(k) => WickBooked {
             refusal: k,
             answer: 0,
-            book,
         },
     }
 }
 
-pub fn replied_out(r: Replied) -> WickBooked
-    ensures { λ w. ⌜ w ≡ bookedBy (saidFreed (r .answer)) (bookOut (r .book)) ⌝ }
+pub fn replied_out(f: Freed) -> WickBooked
+    ensures { λ w. ⌜ w ≡ bookedBy (saidFreed f) ⌝ }
 {
-    let answer = r.answer;
-    let book = book_out(r.book);
-    match answer {
+    match f {
         Freed::Command(c) => WickBooked {
             refusal: 0,
             answer: c,
-            book,
         },
         Freed::Refused(k) => WickBooked {
             refusal: k,
             answer: 0,
-            book,
         },
     }
 }

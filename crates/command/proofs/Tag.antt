@@ -1,4 +1,5 @@
--- What is decided of a command is found by computing: two shapes are compared through the numbers of their rules, two marks through 1 and 0.
+-- What is decided of a command is found by computing: two shapes are compared through the numbers of their rules, two marks, and whether it is known,
+-- through 1 and 0.
 use Prim.Native.Nat.{ℕ, _+_, _≤_, _<_}
 use mathlib.Core.Path.{_≡_, refl, ap, _∙_}
 use mathlib.Core.Bool.{Bool, true, false}
@@ -8,7 +9,7 @@ use types.Run.{OneOf}
 use Rattle.refusal.specs.Test.{flag, clash}
 use Rattle.command.proofs.Arms as arms
 use Rattle.command.proofs.Arms.{allAre, between, Rest}
-use Rattle.command.specs.Command.{ruleNo, numbersOf, shapeOf, isRetired, Decided}
+use Rattle.command.specs.Command.{ruleNo, numbersOf, shapeOf, isKnown, isRetired, Decided}
 use Rattle.command.specs.Known.{rule-one, shape-numbers}
 use Rattle.command.specs.declared.Command.{Command}
 
@@ -17,6 +18,9 @@ ruleIn c = ruleNo (shapeOf c)
 
 abbrev pub markIn : ℕ → ℕ
 markIn c = flag (isRetired c)
+
+abbrev pub knownIn : ℕ → ℕ
+knownIn c = flag (isKnown c)
 
 mark-one : (m n : Bool) → flag m ≡ flag n → m ≡ n
 mark-one true true e = refl
@@ -38,3 +42,10 @@ pub ranged : (x : Command) (kss : List (List ℕ)) (lo n : ℕ) → T (between r
     → T (between markIn (flag (x .1)) kss lo n) → (c : ℕ) → Rest kss c → lo ≤ c → c < lo + n → Decided c x
 ranged x kss lo n t u c r h l =
     like x c (arms.ranged ruleIn (ruleNo (x .0)) kss lo n t c r h l) (arms.ranged markIn (flag (x .1)) kss lo n u c r h l)
+
+-- the same of whether it is known
+pub known-keyed : (t : Bool) (ks : List ℕ) → T (allAre knownIn (flag t) ks) → (c : ℕ) → OneOf ks c → t ≡ isKnown c
+known-keyed t ks u c h = mark-one t (isKnown c) (arms.keyed knownIn (flag t) ks u c h)
+
+pub known-ranged : (t : Bool) (kss : List (List ℕ)) (lo n : ℕ) → T (between knownIn (flag t) kss lo n) → (c : ℕ) → Rest kss c → lo ≤ c → c < lo + n → t ≡ isKnown c
+known-ranged t kss lo n u c r h l = mark-one t (isKnown c) (arms.ranged knownIn (flag t) kss lo n u c r h l)

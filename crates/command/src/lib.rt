@@ -43,6 +43,9 @@ pub enum Rule {
 // "Basic request, 8 bytes": no request has fewer.
 pub const BASIC_BYTES: usize = 8;
 
+// "The source calls 0A legacy, since its reply does not say which group it means."
+const RETIRED_COMMAND: u8 = 0x0A;
+
 // "the one dynamic request 40"
 pub const UNICAST_COMMAND: u8 = 0x40;
 
@@ -90,7 +93,8 @@ const RETIRED: bool = true;
 
 const UNMARKED: bool = false;
 
-// The one decision: shape_of, known and retired call it, and by them all else that goes by a command.
+// The one decision of shape, rule and mark: all that goes by one of these asks it, or shape_of, which hands its shape on. Whether a command is known or
+// retired, and no more, is told below.
 pub fn decide(command: u8) -> Command
     ensures { λ r. ⌜ Decided command r ⌝ }
 {
@@ -125,16 +129,15 @@ pub fn shape_of(command: u8) -> Shape
     c.0
 }
 
-// Whether a command number is one of the 33.
+// Whether a command number is one of the 33. A match of its own: a book asks it of every entry that it comes to, and a yes or no takes a few
+// instructions where it stands, a shape some twenty and a call. It is known exactly if `decide` has a shape for it, by the two contracts.
 pub fn known(command: u8) -> bool
     ensures { λ r. ⌜ r ≡ isKnown command ⌝ }
 {
-    let s = shape_of(command);
-    match s {
-        Shape::Unknown => false,
-        Shape::Basic(_) => true,
-        Shape::Unicast => true,
-        Shape::Colour => true,
+    match command {
+        0x01 | 0x08..=0x0C | 0x0E | 0x1A..=0x1D | 0x20 | 0x31..=0x34 | 0x40..=0x41 | 0xA0..=0xAE =>
+            true,
+        _ => false,
     }
 }
 
@@ -142,8 +145,7 @@ pub fn known(command: u8) -> bool
 pub fn retired(command: u8) -> bool
     ensures { λ r. ⌜ r ≡ isRetired command ⌝ }
 {
-    let c = decide(command);
-    c.1
+    command == RETIRED_COMMAND
 }
 
 // How many bytes of colour data a colour type has; 0 where the type is not listed.

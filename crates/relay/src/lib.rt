@@ -26,8 +26,8 @@ fn request_again(r: Request, out: &mut [u8]) -> Wrote
         Contents::Basic {
             arguments,
             meaning: _,
-        } => writers::basic(Profile::Open, r.sequence, r.command, arguments, out),
-        Contents::Unicast { port, address } => writers::unicast(
+        } => request_writers::basic(Profile::Open, r.sequence, r.command, arguments, out),
+        Contents::Unicast { port, address } => request_writers::unicast(
             Profile::Open,
             r.sequence,
             port,
@@ -39,7 +39,7 @@ fn request_again(r: Request, out: &mut [u8]) -> Wrote
             lights: _,
             level,
             colour,
-        } => writers::colour(Profile::Open, r.sequence, target, level, colour, out),
+        } => request_writers::colour(Profile::Open, r.sequence, target, level, colour, out),
     }
 }
 

@@ -1,4 +1,4 @@
-// Requests as single datagrams, read (crate writers writes them). Basic requests, the one dynamic request, 40, and colour requests. It
+// Requests as single datagrams, read (crate request_writers writes them). Basic requests, the one dynamic request, 40, and colour requests. It
 // leans on crate command for shapes and lengths, on crate ranges for the ranges, on crate meaning for what arguments say, and on crate
 // colour for colours. Document 01, "Frames" and "Requests and their argument ranges"; document 02, W-202 and W-210; source 002, "Basic
 // Request Frame", "TPI Dynamic Subframe" and "DALI Colour Request Frame".

@@ -1,6 +1,6 @@
 // The command rules as one table, to hold beside the maker's list: for each command number the shape of its frame and the rule of its
 // arguments, by their numbers. Document 02, W-209. The names are those of source 002, "Commands", also of commands that are not spoken here.
-// Crate command has the decision by which all else goes; every entry agrees with it.
+// Crate command has the decision of shape and rule by which all else goes; every entry agrees with it.
 ghost use mathlib.Core.Path.{_≡_};
 ghost use Rattle.command.specs.Command.{numbersIn};
 ghost use Rattle.table.specs.Table.{numbersAt, numbersBy};

@@ -1,6 +1,6 @@
 // The codec for programs in C and Rust: `rt staticlib wickanchor` makes a static library of the functions below, for x86-64. A run of
 // bytes is a pointer and then a length; a result is a struct by value, laid out as C does. A refusal is its number by documents 01 and 02,
-// and 0 stands for none; every other field of a refused call is 0, but for a book, a mark, bytes in use and a summary that were handed in.
+// and 0 stands for none; every other field of a refused call is 0, but for a mark, bytes in use and a summary that were handed in.
 // include/wickanchor.h declares them for C. Each function hands on what the crate of its subject answers, as crates c_datagrams, c_values,
 // c_capture and c_seasons put it, and its contract cites that crate's definition.
 ghost use mathlib.Core.Path.{_≡_};
@@ -30,7 +30,7 @@ ghost use Rattle.summary.specs.Summary.{countedIn, counting};
 ghost use Rattle.capture.specs.Capture.{opened, counted, prefixed, found, nothingKept, entryAt};
 ghost use Rattle.report.specs.Report.{reported, reporting};
 ghost use Rattle.by_parts.specs.Parts.{begun, parted, ended};
-ghost use Rattle.book.specs.Book.{freshBook};
+ghost use Rattle.book.specs.Ticks.{timed, freshTimed, GivesUp};
 ghost use Rattle.stream.specs.Stream.{items};
 ghost use Rattle.line.specs.declared.Line.the-variants.{Request};
 ghost use Rattle.line.specs.Rule.{itemAt, settle};
@@ -42,7 +42,7 @@ ghost use Rattle.c_datagrams.specs.Replies.{replyOut, nameNo, codeOut};
 ghost use Rattle.c_datagrams.specs.Events.{eventOut, macIn};
 ghost use Rattle.c_values.specs.Numbers.{numberOut, lineOut, deviceOut, entryOut};
 ghost use Rattle.c_values.specs.Filters.{filtersOut, filterOut};
-ghost use Rattle.c_values.specs.Books.{bookIn, bookOut, askedOut, repliedOut};
+ghost use Rattle.c_values.specs.Books.{bookOut, AsksOut, RepliesOut};
 ghost use Rattle.c_values.specs.Lines.{lineBy, readerIn, readerOut, fedOut, closedOut, positionOut, quietOut};
 ghost use Rattle.c_capture.specs.Captures.{summaryIn, markIn, foundOut, openedOut, countedOut, EmptiesOut, AppendsAtOut, AppendsOut, RunsOut, RunsAtOut};
 ghost use Rattle.c_capture.specs.Records.{recordOut};
@@ -140,7 +140,7 @@ pub extern "C" fn wick_write_basic(
 ) -> WickWrote
     ensures { λ w. ⌜ WrittenOut (basicFrame Open sequence command (record { a = a; b = b; c = c; d = d })) (now (out .entry)) w (now (out .exit)) ⌝ }
 {
-    c_datagrams::wrote_out(writers::basic(
+    c_datagrams::wrote_out(request_writers::basic(
         Profile::Open,
         sequence,
         command,
@@ -159,7 +159,7 @@ pub extern "C" fn wick_write_unicast(
 ) -> WickWrote
     ensures { λ w. ⌜ WrittenOut (unicastFrame Open sequence port (addressIn address)) (now (out .entry)) w (now (out .exit)) ⌝ }
 {
-    c_datagrams::wrote_out(writers::unicast(
+    c_datagrams::wrote_out(request_writers::unicast(
         Profile::Open,
         sequence,
         port,
@@ -181,7 +181,7 @@ pub extern "C" fn wick_write_colour_xy(
     ensures { λ w. ⌜ WrittenOut (colourFrame Open sequence (record { 0 = target }) level (hue xyType (x ∷ y ∷ []))) (now (out .entry)) w (now (out .exit)) ⌝ }
 {
     let colour = Colour::Xy { x, y };
-    c_datagrams::wrote_out(writers::colour(
+    c_datagrams::wrote_out(request_writers::colour(
         Profile::Open,
         sequence,
         LineTarget(target),
@@ -203,7 +203,7 @@ pub extern "C" fn wick_write_colour_tc(
     ensures { λ w. ⌜ WrittenOut (colourFrame Open sequence (record { 0 = target }) level (hue tcType (tc ∷ []))) (now (out .entry)) w (now (out .exit)) ⌝ }
 {
     let colour = Colour::Tc(tc);
-    c_datagrams::wrote_out(writers::colour(
+    c_datagrams::wrote_out(request_writers::colour(
         Profile::Open,
         sequence,
         LineTarget(target),
@@ -237,7 +237,7 @@ pub extern "C" fn wick_write_colour_rgbwaf(
         amber,
         free,
     };
-    c_datagrams::wrote_out(writers::colour(
+    c_datagrams::wrote_out(request_writers::colour(
         Profile::Open,
         sequence,
         LineTarget(target),
@@ -260,7 +260,7 @@ pub extern "C" fn wick_write_basic_quiet(
 ) -> WickWrote
     ensures { λ w. ⌜ WrittenOut (basicFrame Quiet sequence command (record { a = a; b = b; c = c; d = d })) (now (out .entry)) w (now (out .exit)) ⌝ }
 {
-    c_datagrams::wrote_out(writers::basic(
+    c_datagrams::wrote_out(request_writers::basic(
         Profile::Quiet,
         sequence,
         command,
@@ -279,7 +279,7 @@ pub extern "C" fn wick_write_unicast_quiet(
 ) -> WickWrote
     ensures { λ w. ⌜ WrittenOut (unicastFrame Quiet sequence port (addressIn address)) (now (out .entry)) w (now (out .exit)) ⌝ }
 {
-    c_datagrams::wrote_out(writers::unicast(
+    c_datagrams::wrote_out(request_writers::unicast(
         Profile::Quiet,
         sequence,
         port,
@@ -301,7 +301,7 @@ pub extern "C" fn wick_write_colour_xy_quiet(
     ensures { λ w. ⌜ WrittenOut (colourFrame Quiet sequence (record { 0 = target }) level (hue xyType (x ∷ y ∷ []))) (now (out .entry)) w (now (out .exit)) ⌝ }
 {
     let colour = Colour::Xy { x, y };
-    c_datagrams::wrote_out(writers::colour(
+    c_datagrams::wrote_out(request_writers::colour(
         Profile::Quiet,
         sequence,
         LineTarget(target),
@@ -323,7 +323,7 @@ pub extern "C" fn wick_write_colour_tc_quiet(
     ensures { λ w. ⌜ WrittenOut (colourFrame Quiet sequence (record { 0 = target }) level (hue tcType (tc ∷ []))) (now (out .entry)) w (now (out .exit)) ⌝ }
 {
     let colour = Colour::Tc(tc);
-    c_datagrams::wrote_out(writers::colour(
+    c_datagrams::wrote_out(request_writers::colour(
         Profile::Quiet,
         sequence,
         LineTarget(target),
@@ -357,7 +357,7 @@ pub extern "C" fn wick_write_colour_rgbwaf_quiet(
         amber,
         free,
     };
-    c_datagrams::wrote_out(writers::colour(
+    c_datagrams::wrote_out(request_writers::colour(
         Profile::Quiet,
         sequence,
         LineTarget(target),
@@ -631,25 +631,44 @@ pub extern "C" fn wick_status(target: u8) -> WickAim
 // A book in which nothing is held, and whose first number is 0.
 #[no_mangle]
 pub extern "C" fn wick_book() -> WickBook
-    ensures { λ r. ⌜ r ≡ bookOut freshBook ⌝ }
+    ensures { λ r. ⌜ r ≡ bookOut freshTimed ⌝ }
 {
     c_values::book_out(book::fresh())
 }
 
-// Asks with a command: the sequence number for the request, and the book afterwards.
+// Asks with a command at a tick: the sequence number for the request.
 #[no_mangle]
-pub extern "C" fn wick_ask(book: WickBook, command: u8) -> WickBooked
-    ensures { λ w. ⌜ w ≡ askedOut (bookIn book) command ⌝ }
+pub extern "C" fn wick_ask(
+    asked: &mut [u8; 256],
+    last: &mut u8,
+    ticks: &mut [u32; 256],
+    command: u8,
+    tick: u32,
+) -> WickBooked
+    ensures { λ w. ⌜ AsksOut (timed (now (asked .entry)) (now (last .entry)) (now (ticks .entry))) command tick w (timed (now (asked .exit)) (now (last .exit)) (now (ticks .exit))) ⌝ }
 {
-    c_values::asked_out(book::ask(c_values::book_in(book), command))
+    c_values::asked_out(book::ask(asked, last, ticks, command, tick))
 }
 
-// Takes a reply's sequence number: the command that was asked under it, and the book afterwards.
+// Takes a reply's sequence number: the command that was asked under it.
 #[no_mangle]
-pub extern "C" fn wick_answer(book: WickBook, number: u8) -> WickBooked
-    ensures { λ w. ⌜ w ≡ repliedOut (bookIn book) number ⌝ }
+pub extern "C" fn wick_answer(asked: &mut [u8; 256], number: u8) -> WickBooked
+    ensures { λ w. ⌜ RepliesOut (now (asked .entry)) number w (now (asked .exit)) ⌝ }
 {
-    c_values::replied_out(book::reply(c_values::book_in(book), number))
+    c_values::replied_out(book::reply(asked, number))
+}
+
+// Gives up each request that was asked longer ago than a limit, by the tick now: how many these were.
+#[no_mangle]
+pub extern "C" fn wick_give_up(
+    asked: &mut [u8; 256],
+    ticks: &[u32; 256],
+    clock: u32,
+    limit: u32,
+) -> u16
+    ensures { λ r. ⌜ GivesUp (now (asked .entry)) (now (ticks .entry)) clock limit r (now (asked .exit)) ⌝ }
+{
+    book::give_up(asked, ticks, clock, limit)
 }
 
 // A reader that holds nothing.

@@ -17,6 +17,12 @@ enum-known-p-2 c = search needs
 command-requires : tie.Need-command-requires
 command-requires c κs = search needs
 
+enum-known-p-3 : tie.Need-enum-known-p-3
+enum-known-p-3 c = search needs
+
+cast-t7 : tie.Need-cast-t7
+cast-t7 c = search needs
+
 enum-told-2 : tie.Need-enum-told-2
 enum-told-2 c = search needs
 
@@ -30,7 +36,10 @@ returns-3 : tie.Need-returns-3
 returns-3 c = search needs
 
 returns-4 : tie.Need-returns-4
-returns-4 c = rw (c .enum-told2 .given .1)
+returns-4 c = rw (c .before .p3 .given .1)
+
+returns-5 : tie.Need-returns-5
+returns-5 c = rw (c .enum-told2 .given .1)
 
 pub answer-spec : {M : Type 1} → statement M
 answer-spec =
@@ -41,8 +50,11 @@ answer-spec =
     number-requires
     enum-known-p-2
     command-requires
+    enum-known-p-3
+    cast-t7
     enum-told-2
     returns
     returns-2
     returns-3
-    returns-4)
+    returns-4
+    returns-5)

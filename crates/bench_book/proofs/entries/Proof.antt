@@ -9,10 +9,10 @@ use Rattle.bench_book.proofs.entries.Statement.{statement}
 use Rattle.bench_book.proofs.entries.Tie as tie
 
 abbrev Inv-loop : tie.InvT-loop
-Inv-loop out₀ at asked e₀ i₀ out e i = (i ≤ 256) × (length out ≡ length out₀) × Rest (entriesTexts 256 0 asked) out₀ e₀ (entriesTexts (256 - i) i asked) out e
+Inv-loop out₀ at asked ticks e₀ i₀ out e i = (i ≤ 256) × (length out ≡ length out₀) × Rest (entriesTexts 256 0 asked ticks) out₀ e₀ (entriesTexts (256 - i) i asked ticks) out e
 
 abbrev μ-loop : tie.MeasureT-loop
-μ-loop out₀ at asked e₀ i₀ out e i = 256 - i
+μ-loop out₀ at asked ticks e₀ i₀ out e i = 256 - i
 
 loop-holds : tie.Need-loop-holds Inv-loop μ-loop
 loop-holds c = (search needs, refl, rest-whole _ _ _)
@@ -22,6 +22,12 @@ cast-entry c = search needs
 
 element-copy-out-entry : tie.Need-element-copy-out-entry Inv-loop μ-loop
 element-copy-out-entry c = search needs
+
+mul-entry : tie.Need-mul-entry Inv-loop μ-loop
+mul-entry c = search needs
+
+element-copy-out-entry-2 : tie.Need-element-copy-out-entry-2 Inv-loop μ-loop
+element-copy-out-entry-2 c = search needs
 
 entry-requires : tie.Need-entry-requires Inv-loop μ-loop
 entry-requires c κs = search needs
@@ -34,9 +40,14 @@ loop-less c = search needs
 
 loop-again : tie.Need-loop-again Inv-loop μ-loop
 loop-again c =
-    let l = c .before .before .before .before .before .before .loop in
-    let s = c .before .before .before .before .before .before .before .before .args .asked .now in
-    (search needs, search needs, rest-less (entriesTexts (256 - (l .i + 1)) (l .i + 1) s) (rw (entries-turn s (l .i) (search needs)) at (l .inv .2)) (c .before .before .entry .ensures))
+    let l = c .before .before .before .before .before .before .before .loop in
+    let a = c .before .before .before .before .before .before .before .before .before .args in
+    let s = a .asked .now in
+    let ts = a .ticks .now in (
+      search needs,
+      search needs,
+      rest-less (entriesTexts (256 - (l .i + 1)) (l .i + 1) s ts) (rw (entries-turn s ts (l .i) (search needs)) at (l .inv .2)) (c .before .before .entry .ensures),
+    )
 
 same-length : tie.Need-same-length Inv-loop μ-loop
 same-length c = search needs
@@ -44,8 +55,8 @@ same-length c = search needs
 returns : tie.Need-returns Inv-loop μ-loop
 returns c =
     let l = c .before .loop in
-    let s = c .before .before .before .args .asked .now in
-    rest-none (entries-done s (l .i) (search needs)) (l .inv .2)
+    let a = c .before .before .before .args in
+    rest-none (entries-done (a .asked .now) (a .ticks .now) (l .i) (search needs)) (l .inv .2)
 
 pub entries-spec : {M : Type 1} → statement M
 entries-spec =
@@ -56,6 +67,8 @@ entries-spec =
     loop-holds
     cast-entry
     element-copy-out-entry
+    mul-entry
+    element-copy-out-entry-2
     entry-requires
     add-i
     loop-less

@@ -1,7 +1,7 @@
 use borrow.Author.Tests.{eq-eqb, ne-eqb}
+use borrow.Author.Needs.{needs}
 use Rattle.words.specs.Words.{before, wordIn}
 use Rattle.lent.specs.Behind.{puts-append, puts-none}
-use borrow.Author.Needs.{needs}
 use Rattle.bench_book.proofs.entry.Statement.{statement}
 use Rattle.bench_book.proofs.entry.Tie as tie
 
@@ -25,7 +25,10 @@ same-length c = search needs
 
 returns-2 : tie.Need-returns-2
 unfolding before wordIn
-returns-2 c = rw (ne-eqb (c .before .before .before .before .before .before .before .before .before .before .before .before .args .c) 0 (c .before .before .before .before .before .before .before .before .before .before .if1 .left)) (puts-append (c .before .before .before .before .before .before .before .put .ensures) (c .before .before .put2 .ensures))
+returns-2 c =
+    let a = c .before .before .before .before .before .before .before .before .before .before .before .before .args in
+    rw (ne-eqb (a .c) 0 (c .before .before .before .before .before .before .before .before .before .before .if1 .left))
+    (puts-append (c .before .before .before .before .before .before .before .put .ensures) (c .before .before .put2 .ensures))
 
 pub entry-spec : {M : Type 1} → statement M
 entry-spec =

@@ -21,5 +21,11 @@ returns-5 c = search (tests, needs)
 returns-6 : tie.Need-returns-6
 returns-6 c = search (tests, needs)
 
+returns-7 : tie.Need-returns-7
+returns-7 c = search (tests, needs)
+
+returns-8 : tie.Need-returns-8
+returns-8 c = search (tests, needs)
+
 pub measured-spec : {M : Type 1} → statement M
-measured-spec = tie.close (tie.spec returns returns-2 returns-3 returns-4 returns-5 returns-6)
+measured-spec = tie.close (tie.spec returns returns-2 returns-3 returns-4 returns-5 returns-6 returns-7 returns-8)

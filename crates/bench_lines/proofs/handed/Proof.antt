@@ -3,8 +3,8 @@ use mathlib.Core.Path.{_≡_}
 use lib.ListN.{length, take, length-set}
 use native.Mathlib.Omega.{arith}
 use borrow.Author.Needs.{needs}
-use Rattle.bench_words.specs.Words.{frontOf}
-use Rattle.bench_words.specs.Places.{front-turn, front-done}
+use Rattle.bench_words.specs.Words.{madeBy, byteIn, frontOf}
+use Rattle.bench_words.specs.Places.{made-turn, made-done}
 use Rattle.bench_lines.proofs.handed.Statement.{statement}
 use Rattle.bench_lines.proofs.handed.Tie as tie
 
@@ -15,7 +15,7 @@ abbrev μ-loop : tie.MeasureT-loop
 μ-loop len s bytes₀ i₀ bytes i = 67 - i
 
 loop-holds : tie.Need-loop-holds Inv-loop μ-loop
-unfolding frontOf
+unfolding madeBy
 loop-holds c = search needs
 
 byte-at-requires : tie.Need-byte-at-requires Inv-loop μ-loop
@@ -34,14 +34,14 @@ loop-again : tie.Need-loop-again Inv-loop μ-loop
 loop-again c =
     let l = c .before .before .loop in
     let s = c .before .before .before .before .args .s .now in
-    (search needs, simp length-set (l .inv .1), rw (c .byte-at .ensures) (front-turn (l .i) s (l .bytes) (search needs) (l .inv .2)))
+    (search needs, simp length-set (l .inv .1), rw (c .byte-at .ensures) (made-turn (byteIn s) (l .i) (l .bytes) (search needs) (l .inv .2)))
 
 returns : tie.Need-returns Inv-loop μ-loop
 returns c =
     let l = c .before .loop in
     let s = c .before .before .before .args .s .now in
     let e : l .i ≡ 67 = omega arith in
-    let w : l .bytes ≡ frontOf 67 s = front-done 67 s (l .bytes) (l .inv .1) (rw e at (l .inv .2)) in
+    let w : l .bytes ≡ frontOf 67 s = made-done (byteIn s) 67 (l .bytes) (l .inv .1) (rw e at (l .inv .2)) in
     rw w
 
 pub handed-spec : {M : Type 1} → statement M

@@ -13,11 +13,20 @@ enum-told c = search needs
 enum-known-answer : tie.Need-enum-known-answer
 enum-known-answer c = search needs
 
-cast-noted : tie.Need-cast-noted
-cast-noted c = search needs
+cast-asked : tie.Need-cast-asked
+cast-asked c = search needs
 
-element-write-noted : tie.Need-element-write-noted
-element-write-noted c = search needs
+element-write-asked : tie.Need-element-write-asked
+element-write-asked c = search needs
+
+cast-ticks : tie.Need-cast-ticks
+cast-ticks c = search needs
+
+mul-ticks : tie.Need-mul-ticks
+mul-ticks c = search needs
+
+element-write-ticks : tie.Need-element-write-ticks
+element-write-ticks c = search needs
 
 returns : tie.Need-returns
 returns c =
@@ -37,7 +46,10 @@ ask-spec =
     number-for-requires
     enum-told
     enum-known-answer
-    cast-noted
-    element-write-noted
+    cast-asked
+    element-write-asked
+    cast-ticks
+    mul-ticks
+    element-write-ticks
     returns
     returns-2)

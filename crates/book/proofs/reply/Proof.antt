@@ -14,18 +14,18 @@ returns : tie.Need-returns
 unfolding commandOf
 returns c =
     let free = not-true (c .before .known .result) (c .if1 .taken) in
-    record { says = rw (← c .before .known .ensures, free); leaves = rw (← c .before .known .ensures, free) }
+    record { says = λ last. rw (← c .before .known .ensures, free); leaves = λ last. rw (← c .before .known .ensures, free) }
 
-element-write-freed : tie.Need-element-write-freed
-element-write-freed c = search needs
+element-write-asked : tie.Need-element-write-asked
+element-write-asked c = search needs
 
 returns-2 : tie.Need-returns-2
 unfolding commandOf
 returns-2 c =
     let held = not-false (c .before .known .result) (c .if1 .left) in
-    record { says = rw (← c .before .known .ensures, held); leaves = rw (← c .before .known .ensures, held) }
+    record { says = λ last. rw (← c .before .known .ensures, held); leaves = λ last. rw (← c .before .known .ensures, held) }
 
 pub reply-spec : {M : Type 1} → statement M
 reply-spec =
     tie.close
-    (tie.spec element-copy-out-command known-requires returns element-write-freed returns-2)
+    (tie.spec element-copy-out-command known-requires returns element-write-asked returns-2)

@@ -2,8 +2,8 @@ use borrow.Author.Needs.{needs}
 use borrow.Author.Tests.{not-true, not-false}
 use Rattle.command.specs.Known.{shape-told}
 use Rattle.frame.specs.Written.{refuses, passes}
-use Rattle.writers.proofs.basic.Statement.{statement}
-use Rattle.writers.proofs.basic.Tie as tie
+use Rattle.request_writers.proofs.basic.Statement.{statement}
+use Rattle.request_writers.proofs.basic.Tie as tie
 
 decide-requires : tie.Need-decide-requires
 decide-requires c κs = search needs

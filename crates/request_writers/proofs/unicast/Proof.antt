@@ -1,8 +1,8 @@
 use borrow.Author.Needs.{needs}
 use borrow.Author.Tests.{not-true, not-false}
 use Rattle.frame.specs.Written.{refuses, passes}
-use Rattle.writers.proofs.unicast.Statement.{statement}
-use Rattle.writers.proofs.unicast.Tie as tie
+use Rattle.request_writers.proofs.unicast.Statement.{statement}
+use Rattle.request_writers.proofs.unicast.Tie as tie
 
 allows-requires : tie.Need-allows-requires
 allows-requires c κs = search needs

@@ -9,8 +9,8 @@ use Rattle.command.specs.Length.{colourCommand}
 use Rattle.profile.specs.Profile.{allows}
 use Rattle.colour.specs.Colour.{saidColour}
 use Rattle.colour.specs.Laws.{out-kind, out-within, out-data}
-use Rattle.writers.proofs.colour.Statement.{statement}
-use Rattle.writers.proofs.colour.Tie as tie
+use Rattle.request_writers.proofs.colour.Statement.{statement}
+use Rattle.request_writers.proofs.colour.Tie as tie
 
 is-lighting-requires : tie.Need-is-lighting-requires
 is-lighting-requires c κs = search needs
