@@ -488,6 +488,44 @@ static void quiet(void) {
         printf(" NO SUCH ITEM");
 }
 
+/* Whether a plan's filters hide an event. */
+static int hides(const struct wick_plan_left *left, const uint8_t *event) {
+    for (uint64_t i = 0; i < left->count; i++)
+        if (left->filters[i].address == event[0] && left->filters[i].instance == event[1])
+            return event[2] <= WICK_PLAN_TYPE_MOST && left->filters[i].mask >> event[2] & 1;
+    return 0;
+}
+
+/* The answer is that of the filters that the plan leaves, and an event is hidden since a request exactly where a filter hides it; up to that request it is
+   not, and with it it is. */
+static void plan(void) {
+    struct wick_plan r = wick_plan(g[0].bytes, g[0].n, g[1].bytes, g[1].n);
+    struct wick_plan_left left = wick_plan_left(g[0].bytes, g[0].n);
+    uint64_t first = 0;
+    while (first < g[1].n / WICK_PLAN_WANTED_BYTES && !hides(&left, g[1].bytes + WICK_PLAN_WANTED_BYTES * first)) first++;
+    printf("%u", r.refusal);
+    if (r.answer == WICK_PLAN_YES) printf(" yes");
+    else number(r.answer == WICK_PLAN_REQUEST ? "request" : "hidden", r.place);
+    if (r.refusal != left.refusal || (r.refusal ? r.answer != WICK_PLAN_REQUEST || r.place != left.request : left.request != 0)
+        || (!r.refusal && (first < g[1].n / WICK_PLAN_WANTED_BYTES ? r.answer != WICK_PLAN_HIDDEN || r.place != first : r.answer || r.place)))
+        printf(" NO SUCH ANSWER");
+    for (uint64_t i = 0; i < WICK_PLAN_FILTERS_MOST; i++) {
+        const struct wick_plan_filter f = left.filters[i];
+        if (i < left.count ? !f.mask : f.address || f.instance || f.mask) printf(" NO SUCH FILTER");
+    }
+    if (left.count > WICK_PLAN_FILTERS_MOST) printf(" TOO MANY");
+    for (uint64_t j = 0; !r.refusal && j < g[1].n / WICK_PLAN_WANTED_BYTES; j++) {
+        const uint8_t *e = g[1].bytes + WICK_PLAN_WANTED_BYTES * j;
+        struct wick_plan_since s = wick_plan_since(g[0].bytes, g[0].n, e[0], e[1], e[2]);
+        if (s.hidden != hides(&left, e) || (!s.hidden && s.request)) printf(" NO SUCH TRACE");
+        if (s.hidden) {
+            const uint64_t before = WICK_PLAN_REQUEST_BYTES * s.request;
+            struct wick_plan_left until = wick_plan_left(g[0].bytes, before), with = wick_plan_left(g[0].bytes, before + WICK_PLAN_REQUEST_BYTES);
+            if (hides(&until, e) || !hides(&with, e)) printf(" NOT SINCE");
+        }
+    }
+}
+
 static void fresh_request(void) { fresh(WICK_REQUEST_LINE); }
 static void fresh_reply(void) { fresh(WICK_REPLY_LINE); }
 static void hold_request(void) { hold(WICK_REQUEST_LINE); }
@@ -840,7 +878,7 @@ static const struct {
     CALL(close_request), CALL(close_reply), CALL(show_request), CALL(show_reply), CALL(item_request), CALL(item_reply), CALL(quiet),
     CALL(capture_set), CALL(summary_set), CALL(mark_set), CALL(capture_empty), CALL(capture_append), CALL(capture_append_at),
     CALL(capture_run), CALL(capture_run_at), CALL(capture_open), CALL(capture_count), CALL(capture_prefix), CALL(capture_record), CALL(capture_show),
-    CALL(seasons), CALL(seasons_begin), CALL(seasons_part), CALL(seasons_end),
+    CALL(seasons), CALL(seasons_begin), CALL(seasons_part), CALL(seasons_end), CALL(plan),
 };
 #define CALLS (sizeof calls / sizeof *calls)
 

@@ -1,7 +1,7 @@
 // The header in C++: it compiles, its functions link, the scenes that it names are the last that requests take, colour requests have the
 // sizes and fields that it names and none is longer, what it calls retired is read, marked and not written, 18 commands are
-// inside the quiet profile and a run of them passes, the table of commands has the shapes that it names, the sizes and targets that it
-// names for each layout of events are the ends of theirs, and captures, runs of datagrams and seasons, whole and part by part, are as it says.
+// inside the quiet profile and a run of them passes, a filter plan with a swapped mask is found out, the table of commands has the shapes that it
+// names, the sizes and targets that it names for each layout of events are the ends of theirs, and captures, runs of datagrams and seasons, whole and part by part, are as it says.
 #include "wickanchor.h"
 
 // What writing a request with these arguments is refused with.
@@ -113,6 +113,34 @@ static bool quiet() {
     return written && refuses && switches && inside == 18 && wick_inside(WICK_QUERY_SCENE_NUMBERS) && !wick_inside(WICK_DALI_OFF)
         && yes.passes && none.passes && !no.passes && no.item == 0 && no.place == WICK_BASIC_BYTES && no.count == WICK_BASIC_BYTES
         && !cut.passes && cut.item == 1 && cut.place == WICK_BASIC_BYTES && cut.count == 1;
+}
+
+// A plan that hides level and colour changes of a corridor passes; with the bytes of its mask swapped it hides presses, since its second request, and
+// leaves types 0 and 11. As many filters as the header names fit in, one more does not, and the last type that it names is the last that can be hidden.
+static bool plans() {
+    uint8_t plan[(WICK_PLAN_FILTERS_MOST + 1) * WICK_PLAN_REQUEST_BYTES];
+    const uint8_t wanted[] = {68, 3, 6, 68, 3, 0, 68, 3, 1, 68};
+    bool written = wick_write_basic(0, WICK_DALI_ADD_TPI_EVENT_FILTER, 12, 255, 0, 8, plan, 8).count == WICK_PLAN_REQUEST_BYTES
+        && wick_write_basic(1, WICK_DALI_ADD_TPI_EVENT_FILTER, 68, 3, 1, 8, plan + 8, 8).count == WICK_PLAN_REQUEST_BYTES;
+    const struct wick_plan meant = wick_plan(plan, 16, wanted, sizeof wanted), cut = wick_plan(plan, 15, wanted, sizeof wanted);
+    plan[13] = 8;
+    plan[14] = 1;
+    const struct wick_plan slipped = wick_plan(plan, 16, wanted, sizeof wanted), none = wick_plan(nullptr, 0, nullptr, 0);
+    const struct wick_plan_left left = wick_plan_left(plan, 16);
+    const struct wick_plan_since since = wick_plan_since(plan, 16, 68, 3, 0), never = wick_plan_since(plan, 16, 68, 3, 3);
+    for (unsigned i = 0; i <= WICK_PLAN_FILTERS_MOST; i++)
+        written = written && wick_write_basic(0, WICK_DALI_ADD_TPI_EVENT_FILTER, i < 64 ? (uint8_t)i : 64, i < 64 ? 255 : 0, 0x80, 0, plan + 8 * i, 8).count == 8;
+    const uint8_t last[] = {0, 255, WICK_PLAN_TYPE_MOST}, beyond[] = {0, 255, WICK_PLAN_TYPE_MOST + 1};
+    const struct wick_plan most = wick_plan(plan, sizeof plan - 8, beyond, sizeof beyond), hidden = wick_plan(plan, sizeof plan - 8, last, sizeof last),
+        over = wick_plan(plan, sizeof plan, last, sizeof last);
+    written = written && wick_write_basic(0, WICK_QUERY_GROUP_NUMBERS, 0, 0, 0, 0, plan, 8).count == 8;
+    const struct wick_plan other = wick_plan(plan, 16, last, sizeof last);
+    return written && meant.answer == WICK_PLAN_YES && !meant.place && cut.answer == WICK_PLAN_REQUEST && cut.refusal == WICK_TOO_SHORT && cut.place == 1
+        && slipped.answer == WICK_PLAN_HIDDEN && !slipped.refusal && slipped.place == 1 && none.answer == WICK_PLAN_YES
+        && !left.refusal && left.count == 2 && left.filters[1].address == 68 && left.filters[1].instance == 3 && left.filters[1].mask == 0x0801
+        && !left.filters[2].mask && since.hidden == 1 && since.request == 1 && !never.hidden && most.answer == WICK_PLAN_YES
+        && hidden.answer == WICK_PLAN_HIDDEN && hidden.place == 0 && over.refusal == WICK_FILTERS_FULL && over.place == WICK_PLAN_FILTERS_MOST
+        && other.refusal == WICK_NOT_A_FILTER && other.place == 0;
 }
 
 // An event without data is as long as the least that the header names, one of all its data as long as the most and with its data where
@@ -281,6 +309,6 @@ int main() {
     const struct wick_reply r = wick_reply(frame, sizeof frame);
     const struct wick_wrote w = wick_write_reply(WICK_REPLY_ANSWER, r.sequence, frame + r.data_at, r.n, out, sizeof out);
     const struct wick_given v = wick_feed(WICK_REPLY_LINE, wick_reader(), out, w.count);
-    return r.refusal == WICK_OK && w.count == sizeof frame && v.has_item && v.item == 0 && v.count == w.count && scenes() && colours() && retired() && given_up() && quiet() && table() && layouts()
+    return r.refusal == WICK_OK && w.count == sizeof frame && v.has_item && v.item == 0 && v.count == w.count && scenes() && colours() && retired() && given_up() && quiet() && plans() && table() && layouts()
         ? 0 : 1;
 }

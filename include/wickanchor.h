@@ -13,7 +13,8 @@
 
    `refusal` is 0 where a call is not refused; then the fields count. Else it is one of enum wick_refusal, and all other fields are 0 (but
    for mark, summary and bytes in use of an append or of a run of datagrams, which are handed back as they were), and a book that was lent is
-   as it was. The lowest number that applies is given, but for 17, which comes right behind 3, and 13, which comes right before 8; calls of a
+   as it was; wick_plan and wick_plan_left name the request that is refused, the first bad one of the plan, and the second hands over the filters before it.
+   The lowest number that applies is given, but for 17, which comes right behind 3, and 13, which comes right before 8; calls of a
    capture give the first in the order in which their refusals stand below. A refused writer writes no byte; one that is not refused writes
    `count` bytes, and leaves those behind them. */
 #ifndef WICKANCHOR_H
@@ -31,8 +32,8 @@
    wick_request, in the place of a byte that said nothing, so that no other field moves. 11: the quiet profile (W-203): the functions whose names
    end in _quiet, wick_inside, wick_quiet, and refusal 13, which has a name. 12: the table of commands (W-209): wick_table. 13: ticks in the book
    (W-205): wick_give_up; struct wick_book is longer, its parts are lent to wick_ask and wick_answer, which hand no book back, and wick_ask takes
-   a tick. */
-#define WICKANCHOR_VERSION 13
+   a tick. 14: a contractor's filter plan (W-212): wick_plan, wick_plan_left, wick_plan_since, and refusals 18 and 19, which have names. */
+#define WICKANCHOR_VERSION 14
 
 #ifdef __cplusplus
 extern "C" {
@@ -63,6 +64,12 @@ extern "C" {
 #define WICK_EVENT_TWO_TARGET_MOST 0xFFFF
 #define WICK_FILTERS_MOST 15
 #define WICK_NAME_MOST 33
+
+/* Of a filter plan: the bytes of a request and of a wanted event, the filters that a controller keeps, and the last event type that one can hide */
+#define WICK_PLAN_REQUEST_BYTES 8
+#define WICK_PLAN_WANTED_BYTES 3
+#define WICK_PLAN_FILTERS_MOST 64
+#define WICK_PLAN_TYPE_MOST 15
 
 /* Of captures: where the first record begins, the bytes of a record in front of its datagram, the most bytes of a record in each layout of
    events, how many counts a summary has, the bytes in front of each datagram of a run, how many seasons there are, and the most bytes that a
@@ -106,6 +113,8 @@ enum wick_refusal {
                                        datagrams that is cut short */
     WICK_EARLIER_TIME = 16,         /* seconds lower than the last record's */
     WICK_RETIRED = 17,              /* command 0A, in writing and asking only; it comes behind 3 and before every other */
+    WICK_NOT_A_FILTER = 18,         /* a request of a filter plan with a command other than 31 and 33 */
+    WICK_FILTERS_FULL = 19,         /* one that needs a 65th filter */
     WICK_NOT_RISING = 20            /* a boundary of seasons that is not above the one before */
 };
 
@@ -374,6 +383,39 @@ struct wick_quiet {
     uint64_t count;                 /* how many bytes it has */
 };
 
+/* What the check of a filter plan answers */
+enum wick_plan_answer {
+    WICK_PLAN_YES = 0,
+    WICK_PLAN_REQUEST = 1,          /* a request is bad: the first such */
+    WICK_PLAN_HIDDEN = 2            /* every request is good, and a wanted event is hidden after the last: the first such */
+};
+
+struct wick_plan {
+    uint8_t answer;                 /* of enum wick_plan_answer */
+    uint8_t refusal;                /* of the bad request; else 0 */
+    uint64_t place;                 /* of the bad request among the requests, or of the hidden event among the wanted ones, from 0; else 0 */
+};
+
+/* A filter: the events of an address and an instance whose type's bit stands in the mask are hidden */
+struct wick_plan_filter {
+    uint8_t address, instance;
+    uint16_t mask;                  /* bit k stands for event type k; never 0 in a filter */
+};
+
+/* The filters that a plan leaves, in the order in which they were made: the first `count` of them; behind them stand zeros. Where a request is bad,
+   `refusal` is not 0, `request` is its place, and the filters are those that stood before it */
+struct wick_plan_left {
+    uint8_t refusal;
+    uint64_t request;
+    uint64_t count;
+    struct wick_plan_filter filters[WICK_PLAN_FILTERS_MOST];
+};
+
+struct wick_plan_since {
+    uint8_t hidden;                 /* 1 or 0 */
+    uint64_t request;               /* the first from which on the event is hidden to the end; 0 where it is not */
+};
+
 /* The version byte of a capture: the layout of its events */
 enum wick_capture_version {
     WICK_CAPTURE_THREE = 1,         /* the target has three bytes */
@@ -520,6 +562,10 @@ WICK_SIZE(struct wick_reader, 80);
 WICK_SIZE(struct wick_given, 176);
 WICK_SIZE(struct wick_item, 16);
 WICK_SIZE(struct wick_quiet, 24);
+WICK_SIZE(struct wick_plan, 16);
+WICK_SIZE(struct wick_plan_filter, 4);
+WICK_SIZE(struct wick_plan_left, 280);
+WICK_SIZE(struct wick_plan_since, 16);
 WICK_SIZE(struct wick_summary, 60);
 WICK_SIZE(struct wick_mark, 16);
 WICK_SIZE(struct wick_capture, 88);
@@ -669,6 +715,21 @@ struct wick_item wick_item_at(uint8_t line, uint8_t closed, const uint8_t *bytes
 /* The quiet profile applied to a finished run of bytes, before it goes to a controller: it passes where it is requests one behind the other and
    nothing else, each accepted and inside the profile (also one with a retired command). A run of no bytes passes. */
 struct wick_quiet wick_quiet(const uint8_t *bytes, uint64_t length);
+
+/* Checks a contractor's filter plan before it goes to a controller that has no filters: requests of 8 bytes one behind the other (a short end is a bad
+   request, refusal 1), each an accepted 31 or 33. 31 joins its mask to the filter of its address and instance, or makes one; 33 takes the bits of its
+   mask out, and a filter whose mask becomes 0 is dropped. `wanted` has address, instance and event type of each event that is wanted, three bytes each;
+   one or two bytes at its end are passed over. The first bad request is refused with 1 to 7 as wick_request refuses it, then 18, then 19; it comes before every
+   hidden event. */
+struct wick_plan wick_plan(const uint8_t *plan, uint64_t length, const uint8_t *wanted, uint64_t n);
+
+/* The filters that a plan leaves. */
+struct wick_plan_left wick_plan_left(const uint8_t *plan, uint64_t length);
+
+/* Since which request of a plan an event is hidden to its end: one that adds its type to its address and instance, such that none behind it clears that
+   type there, and before which it was not hidden. Ask it of plans that are good: of others, requests that are refused with 1 to 7 or 18 are passed over, and whether
+   there is room for a filter is not judged. */
+struct wick_plan_since wick_plan_since(const uint8_t *plan, uint64_t length, uint8_t address, uint8_t instance, uint8_t kind);
 
 /* A capture is the first `used` bytes of a buffer: a version byte, then records one behind the other, each a length in two bytes, which
    counts what follows it, seconds in four, and an event's datagram; all numbers high byte first. Seconds never fall.

@@ -3,6 +3,7 @@
     python3 second/cases.py > calls
     python3 second/cases.py count      (how many lines of each kind)
     python3 second/cases.py run > run  (the bytes that the program quiet is run on)
+    python3 second/cases.py plan > plan, and wanted > wanted  (the plan and the text that the program plan is run on)
 """
 
 import os
@@ -4221,6 +4222,525 @@ def no_giving_up_calls():
     yield from ["book_fresh", ask(0x09, 1), give_up(2, 1), give_up(2, 0), "book_show"]
 
 
+# The contractor's filter plan (document 02, W-212)
+
+def added(address, instance, mask, sequence=0):
+    """A request 31."""
+    return basic(sequence, 0x31, bytes([address, instance]) + wide(mask, 2))
+
+
+def cleared(address, instance, mask, sequence=0):
+    """A request 33."""
+    return basic(sequence, 0x33, bytes([address, instance]) + wide(mask, 2))
+
+
+def plan(requests, *events):
+    return call("plan", b"".join(requests), b"".join(bytes(event) for event in events))
+
+
+# Both requests, and keys of both kinds: a gear, and an instance of a control device.
+CHANGES = [added, cleared]
+GEAR_KEY, DEVICE_KEY = (5, 255), (68, 3)
+
+# Types 3 and 8 are meant; with the bytes of the mask exchanged they are 0 and 11.
+MEANT, SWAPPED = 0x0108, 0x0801
+
+# What the program plan is run on, and the case of last March. The corridor is instance 3 of device 68, and its mask is swapped in the plan.
+MARCH = [
+    added(12, 255, 0x0308, 1), added(13, 255, 0x0308, 2), added(68, 2, 0x0108, 3), added(68, 3, SWAPPED, 4), added(68, 4, 0x0104, 5),
+    cleared(13, 255, 0x0200, 6), added(69, 0, 0x0080, 7), cleared(70, 1, 0xFFFF, 8), added(69, 0, 0x8000, 9), cleared(69, 0, 0x8080, 10),
+    added(71, 31, 0x0080, 11),
+]
+MARCH_WANTED = """\
+# The corridor and its neighbours: address, instance, type
+68 3 6
+68 3 0
+68 3 1
+
+68 2 6
+68 4 6
+69 0 7
+71 31 6
+12 255 5
+"""
+MARCH_EVENTS = [bytes(int(word) for word in line.split()) for line in MARCH_WANTED.split("\n") if line and line[0] != "#"]
+
+
+def march():
+    """The plan as it came and as it was meant, request by request, each wanted event alone, and all of them from each on."""
+    meant = MARCH[:3] + [added(68, 3, MEANT, 4)] + MARCH[4:]
+    for requests in [MARCH, meant]:
+        for count in range(len(requests) + 1):
+            yield plan(requests[:count], *MARCH_EVENTS)
+        for place, event in enumerate(MARCH_EVENTS):
+            yield from [plan(requests, event), plan(requests, *MARCH_EVENTS[place:])]
+        yield plan(requests)
+
+
+# One filter and one event
+
+def plans_without_requests():
+    """No request: whatever is wanted, nothing is hidden."""
+    for size in list(range(1, 10)) + [255, 256]:
+        for run in [bytes(size), pattern(size), b"\xFF" * size]:
+            yield call("plan", b"", run)
+    yield from [call("plan", b"", b""), call("plan", b"", pattern(1363))]
+
+
+ABOVE = [16, 17, 24, 31, 32, 47, 64, 128, 240, 255]
+
+
+def one_bit_filters():
+    """Each bit alone and each type; each type beside a full mask; and types above 15 beside the bit that their low bits name."""
+    for key in [GEAR_KEY, DEVICE_KEY]:
+        for bit in range(16):
+            for type_ in list(range(16)) + ABOVE[bit % 2::2]:
+                yield plan([added(*key, 1 << bit)], [*key, type_])
+    for type_ in range(256):
+        key = [GEAR_KEY, DEVICE_KEY][type_ % 2]
+        yield plan([added(*key, 0xFFFF)], [*key, type_])
+        yield plan([added(*key, 1 << type_ % 16)], [*key, type_])
+        yield plan([added(*key, 0xFFFF - (1 << type_ % 16))], [*key, type_])
+
+
+def types_of(key, order=1):
+    """All types up to 15 of a key as wanted events, the lowest first or the highest."""
+    return [[*key, type_] for type_ in range(16)][::order]
+
+
+PLAN_MASKS = [0x0000, 0x0001, 0x8000, 0x0108, 0x0801, 0x0101, 0x00FF, 0xFF00, 0x1234, 0xFFFF]
+
+
+def swapped_masks():
+    """Masks whose two bytes are told apart, each with its bytes exchanged: the lowest and the highest type that they hide, and each alone."""
+    for mask in [0x0108, 0x0001, 0x0080, 0x00FF, 0x0304, 0x1248, 0x0101, 0x8080, 0x7F80, 0x0FF0]:
+        for given in [mask, mask % 256 * 256 + mask // 256]:
+            for key in [GEAR_KEY, DEVICE_KEY]:
+                yield from [plan([added(*key, given)], *types_of(key, order)) for order in [1, -1]]
+            yield from [plan([added(*DEVICE_KEY, given)], event) for event in types_of(DEVICE_KEY)]
+            yield plan([added(*DEVICE_KEY, 0xFFFF), cleared(*DEVICE_KEY, given)], *types_of(DEVICE_KEY))
+
+
+def pairs_of_masks():
+    """Two requests for one filter, and three: bits that join, bits that go, bits that are not there, mask 0 and all of them."""
+    for first in PLAN_MASKS:
+        for second in PLAN_MASKS:
+            for change in CHANGES:
+                key = [GEAR_KEY, DEVICE_KEY][(first + second) % 2]
+                yield from [plan([added(*key, first), change(*key, second)], *types_of(key, order)) for order in [1, -1]]
+    some = PLAN_MASKS[1:7:2] + PLAN_MASKS[2:7:2]
+    for first in some:
+        for second in some:
+            for third in some:
+                order = 1 if first < third else -1
+                yield plan([added(*GEAR_KEY, first), cleared(*GEAR_KEY, second), added(*GEAR_KEY, third)], *types_of(GEAR_KEY, order))
+                yield plan([added(*DEVICE_KEY, first), added(*DEVICE_KEY, second), cleared(*DEVICE_KEY, third)], *types_of(DEVICE_KEY, order))
+
+
+# Keys that are near to each other, and address and instance of events that no filter can have.
+NEAR_KEYS = [(68, 3), (68, 2), (68, 4), (68, 19), (67, 3), (69, 3), (100, 3), (67, 4), (4, 255), (5, 255), (3, 255), (64, 0), (64, 31), (127, 0), (127, 31),
+             (0, 255), (63, 255)]
+NO_KEYS = [(4, 3), (68, 255), (67, 255), (64, 255), (127, 255), (5, 0), (5, 3), (5, 31), (0, 0), (63, 31), (132, 3), (196, 3), (128, 0), (68, 35), (68, 131),
+           (68, 67), (3, 68), (255, 5), (255, 68), (255, 3), (255, 0), (255, 255), (128, 255), (64, 32)]
+
+
+def filters_beside_each_other():
+    """A filter hides the events of its own address and instance and no others, and is cleared by them alone."""
+    for key in NEAR_KEYS:
+        for other in NEAR_KEYS + NO_KEYS:
+            yield plan([added(*key, 0xFFFF)], [*other, 0], [*other, 15])
+    for key in NEAR_KEYS:
+        for other in NEAR_KEYS:
+            yield plan([added(*key, SWAPPED), added(*other, MEANT), cleared(*other, 0xFFFF)], [*other, 3], [*key, 3], [*key, 0])
+    everything = [added(*key, 0xFFFF) for key in NEAR_KEYS]
+    for other in NO_KEYS:
+        yield plan(everything, [*other, 0])
+
+
+def clears_where_nothing_is():
+    """Nothing there to clear: before the first request, of another filter, of one that was dropped; what is added later stands."""
+    for key in [GEAR_KEY, DEVICE_KEY]:
+        for mask in PLAN_MASKS:
+            events = types_of(key)
+            yield from [plan([cleared(*key, mask)], *events), plan([cleared(*key, mask), added(*key, mask)], *events)]
+            yield plan([added(*key, mask), cleared(*key, mask)], *events)
+            yield plan([added(*key, mask), cleared(*key, mask), cleared(*key, mask), added(*key, 0x0400), cleared(*key, mask)], *events)
+            yield plan([added(*key, mask), cleared(*key, 0xFFFF), added(*key, 0), cleared(*key, mask)], *events)
+            yield plan([added(*key, 0), added(*key, mask), added(*key, 0)], *events)
+
+
+# Wanted lists
+
+def wanted_lists():
+    """Which event is named: the first, by its place among the threes; one and two bytes at the end count for nothing."""
+    filters = [added(*DEVICE_KEY, SWAPPED), added(*GEAR_KEY, MEANT), added(64, 0, 0x0001), added(0, 255, 0x0001)]
+    hidden, shown = [[68, 3, 0], [5, 255, 8], [64, 0, 0], [0, 255, 0]], [[68, 3, 3], [5, 255, 0], [68, 4, 0], [6, 255, 8], [68, 3, 27]]
+    for count in list(range(20)) + [84, 85, 86, 170, 254, 255, 256, 257]:
+        before = [shown[(count + place) % len(shown)] for place in range(count)]
+        yield plan(filters, *before)
+        yield plan(filters, *before, hidden[count % 4])
+        yield plan(filters, *before, hidden[count % 4], hidden[(count + 1) % 4], shown[0])
+    # an end that would be hidden, were it filled up, or were its bytes read from another place
+    for size in [1, 2]:
+        for event in hidden + shown:
+            for before in [[], [shown[0]], [shown[1], shown[2]]]:
+                yield plan(filters, *before, event[:size])
+        for event in hidden:
+            yield plan(filters, event, event[:size])
+    for front in [[0], [0, 0], [68], [68, 3], [0, 255], [9, 9]]:
+        for event in hidden:
+            yield plan(filters, front, event)
+            yield plan(filters, front, event, event, event)
+            yield plan(filters, shown[0], front, event, shown[1])
+
+
+def orders_of_requests():
+    """The same requests in every order: what is left depends on it, where one of them clears."""
+    three = [added(*DEVICE_KEY, 0x0109), cleared(*DEVICE_KEY, 0x0801), added(*DEVICE_KEY, SWAPPED), added(*GEAR_KEY, MEANT), cleared(*GEAR_KEY, MEANT)]
+    for first in three:
+        for second in three:
+            for third in three:
+                yield plan([first, second, third], [5, 255, 3], [68, 3, 8], [68, 3, 0], [68, 3, 11])
+
+
+# Bad requests
+
+# A plan that is good, with what it hides and what it does not.
+GOOD_PLAN = [added(*DEVICE_KEY, MEANT, 1), added(0, 255, 0xFFFF, 2), cleared(0, 255, 0x8000, 3), added(127, 31, 0x0001, 4)]
+HIDDEN_THERE = [68, 3, 3]
+SHOWN_THERE = [68, 3, 0]
+
+# By their numbers, from 2: 1 is an end, and 19 needs 64 filters.
+BAD_REQUESTS = {
+    2: [resummed(replaced(added(*DEVICE_KEY, MEANT), 0, lead)) for lead in [0x00, 0x03, 0x05, 0x14, 0x5A, 0x84, 0xA0, 0xFF]]
+       + [replaced(added(*DEVICE_KEY, MEANT), 0, 0x05), b"\x05" + pattern(7), bytes(8), b"\xFF" * 8],
+    3: [basic(7, command, [68, 3, 1, 8]) for command in [0x00, 0x02, 0x13, 0x30, 0x35, 0x3F, 0x42, 0x9F, 0xAF, 0xB3, 0xFF]]
+       + [spoilt(basic(7, 0x30, [68, 3, 1, 8])), b"\x04" * 8],
+    4: [basic(7, 0x40, [length, 34, 107, 192]) for length in [0, 5, 7, 70, 255]] + [basic(7, 0x0E, [1, 254, type_, 9]) for type_ in UNLISTED_TYPES]
+       + [spoilt(basic(7, 0x40, [7, 34, 107, 192])), spoilt(basic(7, 0x0E, [80, 254, 0, 9])), b"\x04\x00\x40" + bytes(5), b"\x04\x00\x0E" + bytes(5)],
+    5: [basic(7, 0x40, [6, 34, 107, 192]), spoilt(basic(7, 0x40, [6, 34, 107, 192])), spoilt(basic(7, 0x0E, [80, 254, 0x20, 9]))]
+       + [basic(7, 0x0E, [1, 254, type_, 9]) for type_ in LISTED_TYPES] + [frame[:8] for frame in [unicast(9, pattern(6))] + COLOUR_FRAMES],
+    6: [spoilt(added(*DEVICE_KEY, MEANT)), spoilt(cleared(*GEAR_KEY, MEANT)), added(*DEVICE_KEY, MEANT)[:7] + b"\x00", spoilt(added(64, 255, MEANT)),
+        spoilt(added(*DEVICE_KEY, 0)), spoilt(plain(7, 0x0A)), spoilt(frame_of(0x32, 7)), spoilt(frame_of(0xA9, 7)), spoilt(basic(7, 0xA9, [80, 0, 0, 0]))],
+    7: [change(*key, MEANT) for change in CHANGES for key in [(64, 255), (127, 255), (63, 0), (0, 31), (64, 32), (127, 254), (128, 0), (128, 255), (255, 255)]]
+       + [added(63, 254, 0), cleared(255, 3, 0), basic(7, 0xA9, [80, 0, 0, 0]), basic(7, 0x32, [68, 64, 0, 3]), basic(7, 0x0A, [0, 0, 0, 1]),
+          basic(7, 0x01, [68, 3, 1, 8])],
+    18: [frame_of(command, 7) for command in KNOWN if command not in [0x31, 0x33, 0x40]] + [basic(7, 0x32, [68, 3, 0, 8]), basic(7, 0x20, [0, 255, 1, 8])],
+}
+
+
+def bad_requests():
+    """Each alone, first, between and last, with an event that is hidden and one that is not; and behind two of them that are good."""
+    for requests in BAD_REQUESTS.values():
+        for bad in requests:
+            yield plan([bad], SHOWN_THERE)
+            for place in [0, 2, 4]:
+                yield plan(GOOD_PLAN[:place] + [bad] + GOOD_PLAN[place:], [SHOWN_THERE, HIDDEN_THERE][place // 2 % 2])
+            yield plan(GOOD_PLAN[:1] + [bad], HIDDEN_THERE)
+
+
+def first_of_several():
+    """Two bad requests, of every two numbers in both orders: the first is named, whatever its number is. And one of each, from each on."""
+    some = [requests[0] for requests in BAD_REQUESTS.values()] + [BAD_REQUESTS[18][-1]]
+    for one in some:
+        for other in some:
+            yield from [plan([one, other]), plan([GOOD_PLAN[0], one, GOOD_PLAN[1], other, GOOD_PLAN[2]], HIDDEN_THERE)]
+        yield plan([GOOD_PLAN[0], one, GOOD_PLAN[1][:5]], HIDDEN_THERE)
+    for place in range(len(some) + 1):
+        yield from [plan(GOOD_PLAN + some[place:]), plan(GOOD_PLAN + some[place:][::-1], HIDDEN_THERE)]
+
+
+# Frames of 8 bytes, with wrong bytes and their places.
+PLAN_FAULTS = [
+    (added(*DEVICE_KEY, MEANT), [(0, 0x05), (2, 0x30), (3, 128)]),
+    (cleared(*GEAR_KEY, MEANT), [(0, 0x00), (2, 0x40), (4, 0)]),
+    (added(*GEAR_KEY, MEANT), [(0, 0xA1), (2, 0x0E), (4, 31), (5, 0x10)]),
+    (basic(0, 0xA9, [79, 0, 0, 0]), [(0, 0x06), (2, 0x9F), (3, 80)]),
+    (basic(0, 0x40, [6, 0, 255, 1]), [(0, 0x44), (2, 0x31), (3, 7)]),
+    (basic(0, 0x0E, [127, 31, 0x20, 1]), [(0, 0x0E), (2, 0x33), (5, 0x21), (3, 128)]),
+    (basic(0, 0x32, [64, 0, 0, 255]), [(2, 0x31), (6, 32), (5, 1)]),
+]
+
+
+def several_faults():
+    """Several faults in one request: the lowest number is given. Its sum is right or not, it is whole, cut, or a byte too long."""
+    for frame, wrong_bytes in PLAN_FAULTS:
+        for request in faulty(frame, wrong_bytes):
+            for run in [request, spoilt(request)]:
+                yield from [plan([run], HIDDEN_THERE), plan([GOOD_PLAN[0], run, GOOD_PLAN[1]])]
+            yield from [plan([GOOD_PLAN[0], request[:7]], HIDDEN_THERE), plan([request + b"\x04", GOOD_PLAN[0]], SHOWN_THERE)]
+
+
+def every_command():
+    """Every command number in a request of 8 bytes with the arguments of a filter and without, alone and between good ones; and frames of more bytes."""
+    for command in range(256):
+        for arguments in [[0, 0, 0, 0], [68, 3, 1, 8], [5, 255, 1, 8]]:
+            yield plan([basic(command, command, arguments)], [68, 3, 3], [5, 255, 3])
+        yield plan([GOOD_PLAN[0], frame_of(command, 255 - command), GOOD_PLAN[1]], SHOWN_THERE)
+        yield plan([GOOD_PLAN[3], basic(0, command, [5, 255, 1, 8])], [127, 31, 0])
+    for frame in [unicast(9, pattern(6))] + COLOUR_FRAMES:
+        for bad in [frame, spoilt(frame)]:
+            yield from [plan([bad]), plan([bad, GOOD_PLAN[0]]), plan(GOOD_PLAN + [bad, GOOD_PLAN[0]]), plan(GOOD_PLAN + [bad], HIDDEN_THERE)]
+
+
+def printed_plans():
+    """The frames that source 002 prints, as they are and with their sums put right, each as a plan; its filters in both orders, and all its requests."""
+    for frame in printed_frames():
+        yield from [plan([frame], [0, 255, 3]), plan([resummed(frame)], [0, 255, 3])]
+    requests = [resummed(frame) for frame in printed_frames() if len(frame) == 8 and frame[0] == 0x04]
+    filters = [frame for frame in requests if frame[2] in [0x31, 0x33]]
+    yield from [plan(filters, [0, 255, 8]), plan(filters[::-1], [0, 255, 8]), plan(filters + requests), plan(requests)]
+
+
+PLAN_EDGES = [0, 1, 30, 31, 32, 62, 63, 64, 65, 126, 127, 128, 129, 254, 255]
+
+
+def ranges_of_filters():
+    """Every address and every instance, and both about the ends of their ranges. Where the request is good, its event is hidden, or shown again."""
+    for value in range(256):
+        for address, instance in [(value, 0), (value, 255), (63, value), (64, value)]:
+            yield plan([added(address, instance, 0x0010)], [address, instance, 4])
+    for address in PLAN_EDGES:
+        for instance in PLAN_EDGES:
+            yield plan([added(*DEVICE_KEY, MEANT), cleared(address, instance, 0xFFFF)], [address, instance, 4])
+            yield plan([added(*GEAR_KEY, MEANT), added(address, instance, 0)], [address, instance, 0], [5, 255, 8])
+    for sequence in range(256):
+        yield plan([added(*DEVICE_KEY, MEANT, sequence), cleared(*DEVICE_KEY, 0x0100, 255 - sequence)], [68, 3, 3 + 5 * (sequence % 2)])
+
+
+def short_ends():
+    """An end of 1 to 7 bytes is 1, behind good requests, bad ones and none, and whatever its bytes are."""
+    for size in range(1, 8):
+        for end in [added(*DEVICE_KEY, MEANT)[:size], bytes(size), b"\xFF" * size, pattern(size), plain(0, 0x09)[:size]]:
+            for count in range(5):
+                yield plan(GOOD_PLAN[:count] + [end], [HIDDEN_THERE, SHOWN_THERE][count % 2])
+            yield plan([end])
+            for number in [2, 3, 6, 7, 18]:
+                yield plan([GOOD_PLAN[0], BAD_REQUESTS[number][0], end])
+    whole = b"".join(GOOD_PLAN)
+    for size in range(len(whole) + 1):
+        yield from [plan([whole[:size]], HIDDEN_THERE), plan([whole[size:]], SHOWN_THERE), plan([whole[:size], whole], HIDDEN_THERE)]
+
+
+# Full tables
+
+def some_keys(chance, count):
+    """So many filters' addresses and instances, no two the same."""
+    keys = []
+    while len(keys) < count:
+        key = (chance.below(64), 255) if chance.one_in(3) else (64 + chance.below(64), chance.below(32))
+        if key not in keys:
+            keys.append(key)
+    return keys
+
+
+# 64 keys, and one more.
+FULL_TABLES = [
+    ([(address, 255) for address in range(64)], (64, 0)),
+    ([(address, 31 - address % 32) for address in range(127, 63, -1)], (0, 255)),
+    ([(68 + place // 32, place % 32) for place in range(64)], (70, 0)),
+    (some_keys(Chance(64), 64), (63, 255)),
+]
+
+
+def full_tables():
+    """64 filters are kept, and a 65th is 19, at the request that needs it. Mask 0 needs no room, nor does a filter that is there."""
+    for number, (keys, more) in enumerate(FULL_TABLES):
+        full = [added(*key, MEANT, place) for place, key in enumerate(keys)]
+        first, last = keys[0], keys[-1]
+        for count in [63, 64]:
+            yield plan(full[:count], [*more, 3], [*last, 3])
+            yield plan(full[:count] + [added(*more, SWAPPED)], [*more, 3], [*last, 0])
+        yield from [plan(full), plan(full, [*keys[31], 0], [*keys[32], 3])]
+        # a 65th, and behind it what would make room or is bad; and the others behind it
+        for behind in [[], [cleared(*more, 0xFFFF)], [cleared(*first, 0xFFFF)], [spoilt(full[0])], [full[0][:4]], [added(*more, MEANT)]]:
+            yield plan(full + [added(*more, 1 << number)] + behind, [*first, 3])
+        for mask in [0x8000, 0xFFFF]:
+            yield from [plan(full + [added(*more, 0), added(*more, mask)], [*first, 3]), plan([added(*more, mask)] + full)]
+        # what the 65th request is instead
+        for bad in [spoilt(added(*more, 1)), added(*more, 1)[:7], added(128, 0, 1), frame_of(0x32, 1), basic(0, 0x40, [6, 1, 1, 1]),
+                    resummed(replaced(full[0], 0, 5))]:
+            yield plan(full + [bad, added(*more, 1)], [*first, 3])
+        # mask 0, and filters that are there
+        yield from [plan(full + [added(*more, 0)], [*more, 0]), plan(full + [added(*more, 0)] * 3 + [cleared(*more, 0xFFFF)], [*first, 8])]
+        # nothing there to clear makes no room
+        yield plan(full + [cleared(*more, 0xFFFF), added(*more, 1)])
+        for place in [0, 20 + 7 * number, 63]:
+            key = keys[place]
+            yield plan(full + [added(*key, SWAPPED)], [*key, 1], [*key, 11])
+            yield plan(full + [added(*key, SWAPPED), added(*more, 1)], [*key, 11])
+            # bits that stay, bits that are not there, mask 0: no room; all bits, at once and in two steps: room for one
+            for clearing in [[0x0100], [SWAPPED], [0]]:
+                yield plan(full + [cleared(*key, mask) for mask in clearing] + [added(*more, 1)], [*key, 3])
+            for clearing in [[MEANT], [0xFFFF], [0x0909, MEANT]]:
+                yield plan(full + [cleared(*key, mask) for mask in clearing] + [added(*more, 1)], [*key, 3], [*more, 0])
+            yield plan(full + [cleared(*key, MEANT), added(*more, 1), added(*key, 1)], [*more, 0])
+            yield plan(full + [cleared(*key, MEANT), added(*more, 1), cleared(*more, 1), added(*key, 2)], [*key, 3], [*more, 0], [*key, 1])
+
+
+def each(change, keys, mask):
+    """The same request for each of the keys."""
+    return [change(*key, mask) for key in keys]
+
+
+def long_plans():
+    """As many requests as a line holds: filters of mask 0, filters made and dropped, each made twice, and one of every kind about 64."""
+    keys = some_keys(Chance(65), 170)
+    full = each(added, keys[:64], MEANT)
+    yield plan(each(added, keys, 0), [*keys[0], 0])
+    yield plan(each(added, keys[64:164], 0) + full, [*keys[100], 0], [*keys[63], 8])
+    yield plan(each(added, keys[:100], 0) + full + each(added, keys[64:65], MEANT))
+    yield plan([change(*key, MEANT) for key in keys[:85] for change in CHANGES], [*keys[84], 3])
+    yield plan([change(*key, MEANT) for key in keys[:85] for change in CHANGES[::-1]])
+    yield plan(full * 2, [*keys[64], 3], [*keys[5], 3])
+    yield plan(full + each(cleared, keys[:64], MEANT), *[[*key, 3] for key in keys[:64]])
+    yield plan(full + each(cleared, keys[:64], 0x0100) + each(added, keys[:21], 2), *[[*key, 8] for key in keys[:57]])
+    for count in [104, 105]:
+        yield plan(full + each(cleared, keys[:40], MEANT) + each(added, keys[64:count], MEANT), [*keys[103], 3])
+    yield plan(full[:60] + [change(*key, mask) for key in keys[60:115] for change, mask in [(added, 1), (cleared, 0xFFFF)]], [*keys[99], 0])
+    turns = [added(*DEVICE_KEY, 1 << place % 16, place) for place in range(170)]
+    yield from [plan(turns, [68, 3, 15]), plan(turns[1:] + [cleared(*DEVICE_KEY, 0xFFFF)], [68, 3, 15])]
+    same = [added(*DEVICE_KEY, 1)]
+    yield from [plan(same * 169 + [spoilt(same[0])], [68, 3, 0]), plan(same * 170 + [same[0][:3]])]
+    others = [[68, 3, 1 + place % 255] for place in range(451)]
+    yield from [plan(same, *others[1:], [68, 3, 0]), plan(same, *others, [68, 3])]
+
+
+# Plans by chance
+
+PLAN_KEYS = [(0, 255), (5, 255), (63, 255), (64, 0), (68, 3), (68, 4), (69, 3), (127, 31)]
+
+
+def some_mask(chance):
+    """A mask of one bit, of two, of a byte, of any bits, of none or of all."""
+    bits = [1 << chance.below(16), 1 << chance.below(16) | 1 << chance.below(16), 0xFF << chance.pick([0, 8]), chance.below(65536), 0, 0xFFFF]
+    return bits[chance.pick([0, 0, 0, 1, 1, 1, 2, 3, 3, 4, 5])]
+
+
+def some_change(chance, keys):
+    """A good request for one of the keys."""
+    return chance.pick([added, added, cleared])(*chance.pick(keys), some_mask(chance), chance.below(256))
+
+
+def some_bad_request(chance, keys):
+    """A bad one: of the kinds above, or a good one with one byte changed, its sum put right or not."""
+    if chance.one_in(2):
+        return chance.pick(BAD_REQUESTS[chance.pick([2, 3, 4, 5, 6, 7, 7, 18, 18])])
+    request = damaged_frame(chance, some_change(chance, keys))
+    return request if chance.one_in(2) else resummed(request)
+
+
+def some_wanted(chance, keys):
+    """An event, most often of one of the keys and of a type up to 15."""
+    if chance.one_in(12):
+        return chance.run(3)
+    key = chance.pick(keys) if not chance.one_in(6) else chance.pick(PLAN_KEYS)
+    return bytes([*key, chance.below(16) if not chance.one_in(10) else chance.below(256)])
+
+
+def plans_by_chance():
+    """Few filters, many changes: joined, cleared, dropped and made again."""
+    chance = Chance(212)
+    for _ in range(4600):
+        keys = [chance.pick(PLAN_KEYS) for _ in range(1 + chance.below(3))]
+        requests = [some_change(chance, keys) for _ in range(chance.below(8))]
+        if chance.one_in(4):
+            requests.insert(chance.below(len(requests) + 1), some_bad_request(chance, keys))
+        if chance.one_in(16):
+            requests.append(some_change(chance, keys)[:1 + chance.below(7)])
+        events = [some_wanted(chance, keys) for _ in range(chance.below(8))]
+        yield plan(requests, *events, chance.run(chance.pick([0, 0, 0, 1, 2])))
+
+
+def crowded_plans():
+    """About 64 filters, of which some are dropped now and then: 19 early, late and never."""
+    chance = Chance(213)
+    for _ in range(90):
+        keys, requests = some_keys(chance, 60 + chance.below(24)), []
+        drops = chance.pick([0, 0, 3, 6, 12])
+        for place, key in enumerate(keys):
+            mask = some_mask(chance)
+            requests.append(added(*key, mask if chance.one_in(30) else mask or 1, chance.below(256)))
+            if drops and place > 20 and chance.one_in(drops):
+                requests.append(cleared(*keys[chance.below(place)], chance.pick([0xFFFF, 0xFFFF, some_mask(chance)])))
+            if chance.one_in(20):
+                requests.append(some_change(chance, keys[:place + 1]))
+        if chance.one_in(12):
+            requests.insert(chance.below(len(requests)), some_bad_request(chance, keys))
+        events = [some_wanted(chance, keys) for _ in range(chance.pick([0, 1, 3, 20]))]
+        yield plan(requests[:160], *events)
+
+
+def names_of_plan_refusals():
+    """The names of 18 and 19 into buffers of every size about theirs; their neighbours, and the same numbers of the other kinds and as hexadecimal."""
+    for number in [18, 19]:
+        for size in range(15):
+            yield call("name", [0, number], pattern(size))
+    for kind, number in [(0, 17), (0, 20), (0, 21), (0, 0x18), (0, 0x19), (1, 18), (1, 19), (2, 18), (3, 19), (4, 18), (5, 19)]:
+        yield call("name", [kind, number], pattern(13))
+
+
+def plans_beside_what_is_carried():
+    """The book, the readers, the capture and the seasons in parts stay as they are, and a plan is judged the same whatever they hold."""
+    yield from CARRIED + CARRIED_SHOWN[:4]
+    for requests in [GOOD_PLAN, GOOD_PLAN[:2] + [GOOD_PLAN[2][:5]], [BAD_REQUESTS[18][0]], MARCH, []]:
+        yield from [plan(requests, HIDDEN_THERE, [68, 3, 0])] + CARRIED_SHOWN[:4]
+    yield from CARRIED_SHOWN + [plan(GOOD_PLAN, HIDDEN_THERE)]
+    # a filter that one plan makes is not there for the next
+    for requests in [[added(*DEVICE_KEY, 1)], [], [cleared(*DEVICE_KEY, 1)], [added(*DEVICE_KEY, 2)]]:
+        yield plan(requests, [68, 3, 0])
+    for keys, more in FULL_TABLES[:2]:
+        yield from [plan([added(*key, 1) for key in keys]), plan([added(*more, 1)], [*keys[0], 0], [*more, 0])]
+    yield "help"
+
+
+def filter_plans():
+    for part in [march(), plans_without_requests(), one_bit_filters(), swapped_masks(), pairs_of_masks(), filters_beside_each_other(), clears_where_nothing_is(),
+                 wanted_lists(), orders_of_requests(), bad_requests(), first_of_several(), several_faults(), every_command(), printed_plans(),
+                 ranges_of_filters(), short_ends(), names_of_plan_refusals(), plans_beside_what_is_carried()]:
+        yield from part
+
+
+def crowded_filter_plans():
+    for part in [full_tables(), long_plans(), plans_by_chance(), crowded_plans()]:
+        yield from part
+
+
+# Lines that are no call of plans, by the rows of "What is no call", from its second; some are so by several rows.
+PLAN_NO_CALLS = [
+    filled("plan /", 4096), " " * 4090 + "plan /", "plan" + " 00" * 1364 + " /", "plan /" + " 00" * 1364, "plan" + " 00" * 680 + " /" + " 00" * 684,
+    filled("plans /", 4096), filled("plan zz", 4096), filled("plan", 4096),
+
+    "Plan /", "PLAN /", "plans /", "pla /", "plan_ /", "_plan /", "plan/", "plan/ /", "plan: /", "plan\t/", "plan\r", "plan\x00 /", "plan_show", "plan_set /",
+    "plan_quiet /", "plan_begin", "plan_part 04", "plan_end", "filter_plan /", "filters_plan /", "check_plan /", "check /", "planned /", "wanted /",
+    "hidden 44 03 00", "is_hidden", "judge /", "add 44 03 01 08", "add_filter 44 03 01 08", "clear 44 03 01 08", "clear_filter", "filters_fresh", "filters_show",
+    "filters_set", "hides /", "plann / zz", "/ plan", "04 plan /", "Plan zz / /",
+
+    "plan 4 /", "plan 04 / 4", "plan 004 /", "plan / 044", "plan 040031440301087B /", "plan / 440306", "plan 0x04 /", "plan / 68 3 6", "plan / 255", "plan 04/",
+    "plan /44", "plan 04 /44", "plan //", "plan // 44", "plan zz", "plan zz / /", "plan / zz", "plan / / zz", "plan 04 00 31 44 03 01 08 7B / 44 03 0G",
+    "plan /\r", "plan / 44\r", "plan \t04 /", "plan / \t", "plan - /", "plan / -", "plan --list /", "plan / 44,03,06", "plan \xFF\xFE /", "plan / \xB2\xB3", "plan +4 /",
+    "plan 1_ /",
+
+    "plan", "plan ", "plan 04", "plan 04 00 31 44 03 01 08 7B", "plan 04 00 31 44 03 01 08 7B 44 03 06", "plan / /", "plan / / /", "plan 04 / 44 / 03",
+    "plan 04 00 31 / 44 03 01 08 / 7B", "plan 04 00 31 44 03 01 08 7B / 44 03 06 /", "plan / 44 03 06 / 44 03 00", "plan" + " 00" * 1363,
+]
+
+# The longest lines, blanks before, between and behind the words, small letters, and groups without bytes.
+PLAN_CALLS_SET_OTHERWISE = [
+    "plan /", "  plan  /  ", "plan / ", " plan / 44 03 00", "plan  04 00 31 44 03 08 01  7b  /  44 03 06  44 03 00  ",
+    "plan 04 00 31 44 03 01 08 7b / 44 03 06 44 03 00", "plan 04 0a 31 05 fF fF Ff c5 /  05 Ff 0f", "plan 04 0A 31 05 FF FF FF C5 / 05 ff 10", "plan a4 /",
+    "plan 04 00 0e 01 fe 20 01 72 d8 / 01", "plan 04 00 aE 4f 00 00 00 e5 /",
+    filled("plan /", 4095), filled("plan 04 00 31 44 03 08 01 7B / 44 03 00", 4095), " " * 4089 + "plan /", "plan" + " " * 4090 + "/",
+    "plan" + " 04" * 1363 + " /", "plan /" + " 04" * 1363, filled("plans /", 4095), filled("plan zz", 4095), filled("plan", 4095),
+]
+
+
+def no_plan_calls():
+    """Lines that are no call, between what the run carries; the last line is the plan of last March."""
+    yield from CARRIED + PLAN_NO_CALLS + CARRIED_SHOWN + PLAN_CALLS_SET_OTHERWISE
+    yield plan(MARCH, *MARCH_EVENTS)
+
+
 KINDS = [
     ("bench cases of document 01", bench_cases),
     ("frames of source 002", source_frames),
@@ -4261,6 +4781,9 @@ KINDS = [
     ("the sum in words of eight (W-204)", sums_in_words),
     ("asking, replying and giving up (W-205)", giving_up),
     ("lines that are no call of giving up (W-205)", no_giving_up_calls),
+    ("filter plans (W-212)", filter_plans),
+    ("filter plans of many filters and by chance (W-212)", crowded_filter_plans),
+    ("lines that are no call of filter plans (W-212)", no_plan_calls),
 ]
 
 
@@ -4271,6 +4794,10 @@ def main(arguments):
             print("%7d lines %8d bytes  %s" % (len(calls), sum(len(line) + 1 for line in calls), name))
     elif arguments == ["run"]:
         sys.stdout.buffer.write(QUIET_RUN)
+    elif arguments == ["plan"]:
+        sys.stdout.buffer.write(b"".join(MARCH))
+    elif arguments == ["wanted"]:
+        sys.stdout.buffer.write(MARCH_WANTED.encode("ascii"))
     else:
         # An empty line between the kinds; the last line ends with the input.
         calls = "\n\n".join("\n".join(kind()) for _, kind in KINDS)

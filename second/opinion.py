@@ -917,6 +917,88 @@ class Capture:
         return seasons_in(self.buffer, self.used, corridor, boundaries)
 
 
+# The contractor's filter plan (document 02, W-212): "Contractors bring a plan, a run of 31 and 33 requests made by their own tool."
+
+ADD_FILTER = 0x31
+CLEAR_FILTER = 0x33
+FILTERS_MOST = 64  # "at most 64 entries"
+MASK_BITS = 16
+WANTED_SIZE = 3  # "three bytes each"
+
+Change = namedtuple("Change", "adds key mask")  # adds, or else clears; key: address and instance
+
+
+# "The plan is cut every 8 bytes, a short end being 1."
+def cut_plan(plan):
+    """The requests of a plan as they come."""
+    return [plan[place:place + BASIC_SIZE] for place in range(0, len(plan), BASIC_SIZE)]
+
+
+# "1 to 7 for a plan's request, 18 for a command other than 31 or 33, 19 for a 65th entry, in that order". So 8 bytes of a request 40 or of a
+# colour request are 4 or 5, and not 18.
+def read_change(request):
+    """Reads one request of a plan: what it changes in the filters."""
+    command, arguments = read_request(request)[1:3]
+    refuse(18, command not in [ADD_FILTER, CLEAR_FILTER])
+    return Change(command == ADD_FILTER, (arguments[0], arguments[1]), high_first(arguments[2:]))
+
+
+# "Model the controller's filters, empty at first: at most 64 entries, one for each address and instance, mask never 0."
+class Filters:
+    """The masks by address and instance, in the order in which the entries were made."""
+
+    def __init__(self):
+        self.masks = {}
+
+    def take(self, change):
+        """Makes a change."""
+        if change.adds:
+            self.add(change.key, change.mask)
+        else:
+            self.clear(change.key, change.mask)
+
+    # "Adding joins the mask to the entry or makes one; adding mask 0 changes nothing." So mask 0 never needs a 65th entry.
+    def add(self, key, mask):
+        if mask != 0:
+            refuse(19, key not in self.masks and len(self.masks) == FILTERS_MOST)
+            self.masks[key] = self.masks.get(key, 0) | mask
+
+    # "Clearing takes bits out and drops an entry that becomes 0; clearing where no entry is changes nothing."
+    def clear(self, key, mask):
+        if key in self.masks:
+            self.masks[key] &= ~mask
+            if self.masks[key] == 0:
+                del self.masks[key]
+
+    # "An event is hidden when its type's bit stands in its entry; types above 15 never are." Its entry is that of its address and its instance, both
+    # as they stand: 255 is an instance like any other.
+    def hides(self, address, instance, type_):
+        return type_ < MASK_BITS and self.masks.get((address, instance), 0) >> type_ & 1 == 1
+
+
+# "Our list of wanted address, instance and event type (three bytes each, a short end passed over)."
+def wanted_in(run):
+    """The wanted events of the run."""
+    return [tuple(run[place:place + WANTED_SIZE]) for place in range(0, len(run) - WANTED_SIZE + 1, WANTED_SIZE)]
+
+
+# "A failing plan names its first bad request, or else the first wanted event hidden."
+def filters_left(plan):
+    """The filters behind the last good request, and of the first bad one its refusal and its place; None where all are good."""
+    filters = Filters()
+    for place, request in enumerate(cut_plan(plan)):
+        try:
+            filters.take(read_change(request))
+        except Refusal as refusal:
+            return filters, (refusal.number, place)
+    return filters, None
+
+
+def first_hidden(filters, events):
+    """The place of the first event that is hidden; None where none is."""
+    return next((place for place, event in enumerate(events) if filters.hides(*event)), None)
+
+
 # The calls of docs/BENCH.md: words and groups
 
 LINE_MOST = 4095
@@ -1078,6 +1160,17 @@ def seasons_fields(seasons):
     return [field for number, season in enumerate(seasons, 1) for field in season_fields(number, season)]
 
 
+# "It is the one call whose refusal has a field."
+def plan_fields(plan, wanted):
+    """The fields of the whole answer, its number too."""
+    filters, bad = filters_left(plan)
+    if bad:
+        number, place = bad
+        return [number, "request", place]
+    hidden = first_hidden(filters, wanted_in(wanted))
+    return [0, "yes"] if hidden is None else [0, "hidden", hidden]
+
+
 # The groups of the calls on the capture
 
 CAPTURE_BUFFER_MOST = 1300
@@ -1165,7 +1258,8 @@ ERROR_CODE_NAMES = {
 REFUSAL_NAMES = {
     0: "OK", 1: "TOO_SHORT", 2: "BAD_LEAD", 3: "UNKNOWN_COMMAND", 4: "BAD_LENGTH_BYTE", 5: "BAD_LENGTH", 6: "BAD_SUM",
     7: "BAD_ARGUMENT", 8: "NO_ROOM", 9: "NO_NUMBER_FREE", 10: "NOT_AWAITED", 11: "BAD_DATA_SIZE", 12: "NONE_THERE",
-    13: "OUTSIDE_PROFILE", 14: "UNKNOWN_VERSION", 15: "BAD_RECORD", 16: "EARLIER_TIME", 17: "RETIRED", 20: "NOT_RISING",
+    13: "OUTSIDE_PROFILE", 14: "UNKNOWN_VERSION", 15: "BAD_RECORD", 16: "EARLIER_TIME", 17: "RETIRED", 18: "NOT_A_FILTER",
+    19: "FILTERS_FULL", 20: "NOT_RISING",
 }
 
 KIND_NAMES = [
@@ -1296,6 +1390,11 @@ RUN_CALLS = {
     "quiet": ([SOME], plain(lambda run: ["yes" if is_quiet(run) else "no"])),
 }
 
+# "Nothing is carried, and nothing carried is read."
+PLAN_CALLS = {
+    "plan": ([SOME, SOME], lambda plan, wanted: text(plan_fields(plan, wanted))),
+}
+
 
 class Bench:
     """One run of the bench, with the book, the two readers, the capture and the parts of another that it carries."""
@@ -1316,6 +1415,7 @@ class Bench:
         self.calls.update(RUN_CALLS)
         self.calls.update(self.capture_calls())
         self.calls.update(self.parts_calls())
+        self.calls.update(PLAN_CALLS)
         self.calls["help"] = ([exactly(0)], plain(lambda none: ["calls"] + list(self.calls)))
 
     def book_calls(self):

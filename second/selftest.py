@@ -1,5 +1,5 @@
-"""Self-checks of the second program: what the documents state, asked of second/opinion.py, second/sheet.py, second/quiet.py and
-second/changes.py.
+"""Self-checks of the second program: what the documents state, asked of second/opinion.py, second/sheet.py, second/quiet.py, second/plan.py
+and second/changes.py.
 
     python3 second/selftest.py
 """
@@ -7,15 +7,19 @@ second/changes.py.
 import bisect
 import contextlib
 import datetime
+import functools
 import io
 import os
 import subprocess
 import sys
+import tempfile
 import unittest
 
 import cases
 import changes
 import opinion
+import plan
+import plans
 import quiet
 import sheet
 
@@ -82,6 +86,12 @@ def capture_of(count, records, version="01"):
 def four(*seasons):
     """The answer that has these four seasons."""
     return "0 " + " ".join("season %d %s" % place for place in enumerate(seasons, 1))
+
+
+def plan_of(count, *more):
+    """The call whose plan adds so many filters, of gear 0, 1, .. with mask 0108, and then has these requests; type 3 of gear 0 is wanted."""
+    filters = ["04 00 31 %02X FF 01 08 %02X" % (gear, 0xC3 ^ gear) for gear in range(count)]
+    return " ".join(["plan", *filters, *more, "/ 00 FF 03"])
 
 
 NOTHING_IN_IT = "occupied 0 presses 0 holds 0 longest absent total 0 gaps 0"
@@ -611,11 +621,11 @@ STATED_LATER = [
     ("settle_request 04 00 0A 00 00 00 00", "0 more"),
     ("item_request 00 / 04 00 0A 00 00 00 00 0E", "0 item 0 count 8"),
     ("item_request 01 / 04 00 0A 00 00 00 00", "0 item 1 count 1"),
-    # the name of 17, whose byte is 11; 18 and 23 have none
+    # the name of 17, whose byte is 11; 23 and 24 have none
     ("name 00 11 / 00 00 00 00 00 00 00 00", "0 count 7 before 00 00 00 00 00 00 00 00 after 52 45 54 49 52 45 44 00"),
     ("name 00 11 / 00 00 00 00 00 00", "8 before 00 00 00 00 00 00 after 00 00 00 00 00 00"),
-    ("name 00 12 /", "7 before after"),
     ("name 00 17 /", "7 before after"),
+    ("name 00 18 /", "7 before after"),
     # W-211: "take an accepted datagram and change exactly one byte to another value, and the result is refused"
     ("reply A0 00 00 A0", "0 type A0 sequence 0 n 0"),
     ("reply A4 00 00 A0", "2"),
@@ -647,6 +657,70 @@ STATED_LATER = [
     ("event_two 5A 43 7C BA CC 2F 40 2E 00 3B 04 00 6A", "6"),
     ("event_two 5A 43 7C BA CC 2F 40 2E 00 3B 04 00 6D", "0 mac 7C BA CC 2F 40 2E target 59 type 4 GROUP_LEVEL_CHANGE n 0 instance absent"),
     ("event_two 5A 43 7C BA CC 2F 40 2E 00 3B 02 00 6B", "7"),
+    # W-212: "the controller's filters, empty at first"
+    ("plan /", "0 yes"),
+    ("plan / 44 03 00", "0 yes"),
+    ("plan / 44", "0 yes"),
+    # last March: 01 08 was meant, types 3 and 8; 08 01 are types 0 and 11
+    ("plan 04 00 31 44 03 01 08 7B / 44 03 06 44 03 00 44 03 01", "0 yes"),
+    ("plan 04 00 31 44 03 08 01 7B / 44 03 06 44 03 00 44 03 01", "0 hidden 1"),
+    ("plan 04 00 31 44 03 01 08 7B / 44 03 0B 44 03 07 44 03 08 44 03 03", "0 hidden 2"),
+    # "adding joins the mask to the entry or makes one; adding mask 0 changes nothing"
+    ("plan 04 00 31 44 03 00 01 73 04 01 31 44 03 01 00 72 / 44 03 08", "0 hidden 0"),
+    ("plan 04 00 31 44 03 00 01 73 04 01 31 44 03 01 00 72 / 44 03 01 44 03 00", "0 hidden 1"),
+    ("plan 04 00 31 44 03 00 01 73 04 01 31 44 03 00 00 73 / 44 03 00", "0 hidden 0"),
+    ("plan 04 00 31 44 03 00 00 72 / 44 03 00", "0 yes"),
+    # "clearing takes bits out and drops an entry that becomes 0; clearing where no entry is changes nothing"
+    ("plan 04 00 31 44 03 01 08 7B 04 00 33 44 03 01 01 70 / 44 03 00 44 03 08 44 03 03", "0 hidden 2"),
+    ("plan 04 00 31 44 03 01 08 7B 04 00 33 44 03 01 08 79 / 44 03 08 44 03 03", "0 yes"),
+    ("plan 04 00 33 44 03 FF FF 70 04 00 31 44 03 01 08 7B / 44 03 08", "0 hidden 0"),
+    ("plan 04 00 33 44 03 FF FF 70 / 44 03 08", "0 yes"),
+    # "when its type's bit stands in its entry; types above 15 never are"; 255 is no instance but its own
+    ("plan 04 00 31 05 FF FF FF CF / 05 FF 10 05 FF 1F 05 FF FF 05 FF 0F", "0 hidden 3"),
+    ("plan 04 00 31 05 FF FF FF CF / 05 00 00 05 FE 00 04 FF 00 45 FF 00 45 00 00", "0 yes"),
+    ("plan 04 00 31 44 03 FF FF 72 / 44 FF 00 44 02 00 04 03 00 44 23 00", "0 yes"),
+    # "three bytes each, a short end passed over"
+    ("plan 04 00 31 44 03 00 01 73 / 44 03", "0 yes"),
+    ("plan 04 00 31 44 03 00 01 73 / 00 44 03 00 00 00", "0 yes"),
+    ("plan 04 00 31 44 03 00 01 73 / 00 44 03 44 03 00 44 03", "0 hidden 1"),
+    # "the plan is cut every 8 bytes, a short end being 1", also where an event is hidden
+    ("plan 04 /", "1 request 0"),
+    ("plan 04 00 31 44 03 00 01 73 04 00 31 44 03 00 01 / 44 03 00", "1 request 1"),
+    ("plan 04 00 31 44 03 00 01 73 FF / 44 03 00", "1 request 1"),
+    # "1 to 7 for a plan's request, 18 for a command other than 31 or 33": 8 bytes of 40 and 0E are 4 and 5
+    ("plan 05 00 31 44 03 00 01 72 /", "2 request 0"),
+    ("plan 04 00 30 44 03 00 01 72 /", "3 request 0"),
+    ("plan 04 00 40 07 00 00 00 43 /", "4 request 0"),
+    ("plan 04 00 0E 01 FE 00 00 F5 /", "4 request 0"),
+    ("plan 04 00 40 06 22 6B C0 A8 0A 0A 63 /", "5 request 0"),
+    ("plan 04 00 0E 7F FE 20 01 72 D8 /", "5 request 0"),
+    ("plan 04 00 31 44 03 08 01 7F /", "6 request 0"),
+    ("plan 04 00 A9 4F 00 00 00 E3 /", "6 request 0"),
+    ("plan 04 00 31 44 20 00 01 50 /", "7 request 0"),
+    ("plan 04 00 33 44 FF 00 01 8D /", "7 request 0"),
+    ("plan 04 00 31 3F 00 00 01 0B /", "7 request 0"),
+    ("plan 04 00 A9 50 00 00 00 FD /", "7 request 0"),
+    ("plan 04 00 A9 4F 00 00 00 E2 /", "18 request 0"),
+    ("plan 04 00 32 44 00 00 03 71 /", "18 request 0"),
+    ("plan 04 00 0A 00 00 00 00 0E /", "18 request 0"),
+    # "names its first bad request, or else the first wanted event hidden"
+    ("plan 04 00 31 44 03 00 01 73 04 00 A9 4F 00 00 00 E2 05 00 31 44 03 00 01 72 / 44 03 00", "18 request 1"),
+    # "19 for a 65th entry": not for mask 0 (63 is gear, 64 a device), nor for an entry that is there, and not behind a dropped one
+    (plan_of(64), "0 hidden 0"),
+    (plan_of(64, "04 00 31 40 00 00 01 74"), "19 request 64"),
+    (plan_of(64, "04 00 31 40 00 00 01 74", "04 00 33 40 00 00 01 76"), "19 request 64"),
+    (plan_of(64, "04 00 31 40 00 00 00 75"), "0 hidden 0"),
+    (plan_of(64, "04 00 31 40 00 00 00 75", "04 00 31 40 00 00 01 74"), "19 request 65"),
+    (plan_of(64, "04 00 31 3F FF 00 01 F4"), "0 hidden 0"),
+    (plan_of(64, "04 00 33 00 FF 01 00 C9", "04 00 31 40 00 00 01 74"), "19 request 65"),
+    (plan_of(64, "04 00 33 00 FF 01 08 C1", "04 00 31 40 00 00 01 74"), "0 yes"),
+    (plan_of(64, "04 00 33 40 00 FF FF 77", "04 00 31 40 00 00 01 74"), "19 request 65"),
+    (plan_of(64, "04 00 31 40 00 00 01 75"), "6 request 64"),
+    (plan_of(64, "04 00 32 40 00 00 FF 89"), "18 request 64"),
+    ("name 00 12 / FF FF FF FF FF FF FF FF FF FF FF FF",
+     "0 count 12 before FF FF FF FF FF FF FF FF FF FF FF FF after 4E 4F 54 5F 41 5F 46 49 4C 54 45 52"),
+    ("name 00 13 / FF FF FF FF FF FF FF FF FF FF FF FF",
+     "0 count 12 before FF FF FF FF FF FF FF FF FF FF FF FF after 46 49 4C 54 45 52 53 5F 46 55 4C 4C"),
     # W-213: "occupied events (type 6), button presses (0), holds (1)"; gaps of 4 and 7 in the first season, none with two in the others
     (capture_of(9, record_at(1, OCCUPIED) + record_at(2, PRESS) + record_at(5, OCCUPIED) + record_at(5, HOLD) + record_at(6, UNOCCUPIED)
                 + record_at(12, OCCUPIED) + record_at(33, HOLD) + record_at(33, HOLD) + record_at(60, OCCUPIED)), "0"),
@@ -766,6 +840,62 @@ STATED_LINES = [
     ("04 00 09 00 00 00 00 0D 04 00 09 00 00 00 01 0C", "no: item 7 at byte 8, 040009000000010C: an argument is out of range"),
     ("04 00 A9 50 00 00 00 FD", "no: item 7 at byte 0, 0400A950000000FD: an argument is out of range"),
     ("04 00 0E 50 FE 20 01 72 F7", "no: item 7 at byte 0, 04000E50FE200172F7: an argument is out of range"),
+]
+
+# docs/PLAN.md: a plan, a wanted list, and the answer with its list, by the page's rules.
+ADDS, CLEARS = "04 00 31 44 03 01 08 7B ", "04 00 33 44 03 01 08 79 "
+STATED_PLANS = [
+    ("", "", "yes: no wanted event is hidden (requests 0, filters left 0, wanted events 0)\nfilters left: 0\n"),
+    (ADDS + "04 00 31 05 FF 00 01 CE " + CLEARS + ADDS + "04 00 31 05 FF 80 00 4F", "68 3 0\n",
+     "yes: no wanted event is hidden (requests 5, filters left 2, wanted events 1)\nfilters left: 2\n"
+     "address 5, instance 255, mask 8001, types 0 BUTTON_PRESS, 15\naddress 68, instance 3, mask 0108, types 3 LEVEL_CHANGE, 8 COLOUR_CHANGED\n"),
+    (ADDS + CLEARS + "04 09 31 44 03 08 01 72", "# the corridor\r\n\r\n68\t3 06\r\n  068 003 0",
+     "no: wanted event 1, address 68, instance 3, type 0 BUTTON_PRESS, is hidden since request 2 at byte 16, 0409314403080172\n"
+     "request 2 adds address 68, instance 3, mask 0801, types 0 BUTTON_PRESS, 11\n"
+     "with the two bytes of its mask exchanged it adds address 68, instance 3, mask 0108, types 3 LEVEL_CHANGE, 8 COLOUR_CHANGED: were they swapped?\n"
+     "filters left: 1\naddress 68, instance 3, mask 0801, types 0 BUTTON_PRESS, 11\n"),
+    ("04 00 31 44 03 04 04 72 " + ADDS, "68 3 10\n",
+     "no: wanted event 0, address 68, instance 3, type 10, is hidden since request 0 at byte 0, 0400314403040472\n"
+     "request 0 adds address 68, instance 3, mask 0404, types 2 ABSOLUTE_INPUT, 10\n"
+     "filters left: 1\naddress 68, instance 3, mask 050C, types 2 ABSOLUTE_INPUT, 3 LEVEL_CHANGE, 8 COLOUR_CHANGED, 10\n"),
+    (ADDS + "04 00 31", "68 3 3",
+     "no: request 1 at byte 8, 040031: 1 TOO_SHORT: the plan ends inside it, a request has 8 bytes\n"
+     "filters before request 1: 1\naddress 68, instance 3, mask 0108, types 3 LEVEL_CHANGE, 8 COLOUR_CHANGED\n"),
+    ("05 00 31 44 03 01 08 7A", "", "no: request 0 at byte 0, 050031440301087A: 2 BAD_LEAD: a request begins with 04\nfilters before request 0: 0\n"),
+    ("04 00 AF 44 03 01 08 E5", "", "no: request 0 at byte 0, 0400AF44030108E5: 3 UNKNOWN_COMMAND: we know no command AF\nfilters before request 0: 0\n"),
+    ("04 00 0E 01 FE 00 00 F5", "",
+     "no: request 0 at byte 0, 04000E01FE0000F5: 4 BAD_LENGTH_BYTE: command 0E has another length, and sets no filter\nfilters before request 0: 0\n"),
+    ("04 00 40 06 22 6B C0 A8 0A 0A 63", "",
+     "no: request 0 at byte 0, 04004006226BC0A8: 5 BAD_LENGTH: command 40 has another length, and sets no filter\nfilters before request 0: 0\n"),
+    ("04 00 31 44 03 01 08 7A", "",
+     "no: request 0 at byte 0, 040031440301087A: 6 BAD_SUM: its last byte has to be 7B, the exclusive-or of those before it\nfilters before request 0: 0\n"),
+    ("04 00 33 3F 1F 01 08 1E", "",
+     "no: request 0 at byte 0, 0400333F1F01081E: 7 BAD_ARGUMENT: address 63 with instance 31: a filter is of address 0 to 63 with instance 255, "
+     "or of 64 to 127 with 0 to 31\nfilters before request 0: 0\n"),
+    ("04 00 A9 50 00 00 00 FD", "",
+     "no: request 0 at byte 0, 0400A950000000FD: 7 BAD_ARGUMENT: an argument of command A9 is out of its range\nfilters before request 0: 0\n"),
+    (CLEARS + "04 00 A9 4F 00 00 00 E2", "",
+     "no: request 1 at byte 8, 0400A94F000000E2: 18 NOT_A_FILTER: command A9 DALI_OFF sets no filter, a plan has 31 and 33 only\n"
+     "filters before request 1: 0\n"),
+    (plan_of(64)[5:-10] + "04 00 31 44 03 01 08 7B", "0 255 3\n",
+     "no: request 64 at byte 512, 040031440301087B: 19 FILTERS_FULL: a 65th filter is needed, and a controller keeps 64\n"
+     "request 64 adds address 68, instance 3, mask 0108, types 3 LEVEL_CHANGE, 8 COLOUR_CHANGED\nfilters before request 64: 64\n"
+     + "".join("address %d, instance 255, mask 0108, types 3 LEVEL_CHANGE, 8 COLOUR_CHANGED\n" % gear for gear in range(64))),
+]
+
+# Arguments that get no answer, with a standard input of no bytes.
+NOT_A_LINE = "an address, an instance and a type are wanted, each a number from 0 to 255"
+STATED_FAULTS = [
+    (["--lists", "-", "-", "-"], "no such option: --lists"),
+    (["--" + "l" * 4093], "no such option: --" + "l" * 4093),
+    (["--" + "l" * 4094], "2 arguments are wanted behind the option, if there is one; plan --help names them"),
+    (["--list", "-"], "2 arguments are wanted behind the option, if there is one; plan --help names them"),
+    (["l" * 4096], "2 arguments are wanted behind the option, if there is one; plan --help names them"),
+    (["-", "l" * 4096], "an argument is too long"),
+    (["--list", "-", "-"], "only one of the two files can be standard input"),
+    (["/nowhere/plan", "/nowhere/wanted"], "/nowhere/plan: No such file or directory"),
+    (["/", "/nowhere/wanted"], "reading /: Is a directory"),
+    (["-", "/nowhere/wanted"], "/nowhere/wanted: No such file or directory"),
 ]
 
 # The commands inside the quiet profile: those of document 01's table but 08, 31, 33, 40 and A0 to A9.
@@ -933,6 +1063,58 @@ def seasons_event_by_event(year, boundaries, corridor):
                 season[5] += 1
             before[place] = seconds
     return [tuple(season) for season in seasons]
+
+
+@functools.lru_cache(maxsize=None)
+def asked_plans():
+    """The plans of the cases with their wanted lists and the lines that ask for them."""
+    asked = [line for kind in [cases.filter_plans, cases.crowded_filter_plans] for line in kind() if line.split(" ")[0] == "plan"]
+    groups = [line[5:].split("/") for line in asked]
+    return [(bytes.fromhex(requests), bytes.fromhex(wanted), line) for line, (requests, wanted) in zip(asked, groups)]
+
+
+def in_eights(run):
+    """The requests of a plan."""
+    return [run[place:place + 8] for place in range(0, len(run), 8)]
+
+
+def told_bit_by_bit(run, wanted):
+    """The answer to a plan without a table of masks: for each address, instance and type whether the last request that has this bit adds. The
+    filters are the addresses and instances for which one does."""
+    last, keys = {}, set()
+    for place, request in enumerate(in_eights(run)):
+        number, _ = answered(opinion.read_request, request)
+        if number == 0 and request[2] not in [0x31, 0x33]:
+            number = 18
+        if number == 0:
+            bits = [bit for bit in range(16) if request[5 + (bit < 8)] >> bit % 8 & 1]
+            key = request[3:5]
+            if request[2] == 0x31 and bits and key not in keys:
+                keys = {own[:2] for own, adds in last.items() if adds}
+                number = 19 if key not in keys and len(keys) > 63 else 0
+                keys.add(key)
+            last.update((key + bytes([bit]), request[2] == 0x31) for bit in bits)
+        if number != 0:
+            return "%d request %d" % (number, place)
+    for place in range(len(wanted) // 3):
+        if last.get(wanted[3 * place:3 * place + 3]):
+            return "0 hidden %d" % place
+    return "0 yes"
+
+
+def masks_left(run):
+    """The filters that a plan leaves, or that stand before its first bad request, in their order."""
+    return list(opinion.filters_left(run)[0].masks.items())
+
+
+def plan_printed(words, files):
+    """What the program plan prints, where these are the bytes of the files."""
+    with tempfile.TemporaryDirectory() as folder:
+        for name, run in files.items():
+            with open(os.path.join(folder, name), "wb") as file:
+                file.write(run)
+        named = [os.fsencode(os.path.join(folder, word) if word in files else word) for word in words]
+        return plan.printed(named, lambda: b"")
 
 
 YEAR = os.path.join(os.path.dirname(os.path.abspath(__file__)), os.pardir, "bench", "year")
@@ -1739,6 +1921,149 @@ class SelfTest(unittest.TestCase):
                     self.assertEqual(len([seconds for seconds in occupied if seconds % 86400 == 10033]), 365)
         self.assertEqual(made_up_year("7", "2000"), made_up_year("7", "2000"))
         self.assertNotEqual(made_up_year("7", "2000"), made_up_year("8", "2000"))
+
+    def test_plans_bit_by_bit(self):
+        bench, seen = opinion.Bench(), set()
+        for run, wanted, line in asked_plans():
+            answer = bench.answer(line.encode("ascii"))
+            self.assertEqual(answer, told_bit_by_bit(run, wanted), line)
+            seen.add(answer if answer[0] == "0" else answer.split(" ")[0])
+        self.assertLessEqual({str(number) for number in [*range(1, 8), 18, 19]} | {"0 yes"} | {"0 hidden %d" % place for place in range(12)}, seen)
+
+    def test_last_march(self):
+        bench = opinion.Bench()
+        swapped = [request for request in cases.MARCH if request[3:7] == bytes([68, 3, 8, 1])]
+        meant = [cases.added(68, 3, 0x0108) if request in swapped else request for request in cases.MARCH]
+        self.assertEqual(len(swapped), 1)
+        self.assertEqual(cases.MARCH_EVENTS[:3], [bytes([68, 3, type_]) for type_ in [6, 0, 1]])
+        answers = [bench.answer(cases.plan(requests, *cases.MARCH_EVENTS).encode("ascii")) for requests in [cases.MARCH, meant]]
+        self.assertEqual(answers, ["0 hidden 1", "0 yes"])
+
+    def test_bad_requests_by_number(self):
+        bench = opinion.Bench()
+        for number, requests in cases.BAD_REQUESTS.items():
+            for request in requests:
+                self.assertEqual(len(request), 8)
+                self.assertEqual(bench.answer(cases.plan([request]).encode("ascii")), "%d request 0" % number)
+        # of 18 every known command but 31 and 33, and 40 and 0E, of which 8 bytes are 4 or 5
+        self.assertEqual({request[2] for request in cases.BAD_REQUESTS[18]}, set(opinion.BASIC) - {0x31, 0x33})
+
+    def test_filters_of_any_plan(self):
+        most = 0
+        for run, _, _ in asked_plans():
+            filters = opinion.Filters()
+            for request in in_eights(run):
+                before = list(filters.masks.items())
+                number, change = answered(opinion.read_change, request)
+                number = number or answered(filters.take, change)[0]
+                masks = list(filters.masks.items())
+                if number:
+                    self.assertEqual(masks, before)
+                    break
+                self.assertLessEqual(len(masks), 64)
+                self.assertTrue(all(0 < mask < 65536 for _, mask in masks))
+                self.assertTrue(all(instance == 255 if address < 64 else address < 128 and instance < 32 for (address, instance), _ in masks))
+                # what stood keeps its order, and what is made stands behind it
+                stays = [key for key, _ in before if key in filters.masks]
+                self.assertEqual([key for key, _ in masks][:len(stays)], stays)
+                self.assertLessEqual(len(masks) - len(stays), 1)
+                most = max(most, len(masks))
+            self.assertEqual(masks_left(run), list(filters.masks.items()))
+        self.assertEqual(most, 64)
+
+    def test_first_bad_request(self):
+        seen = set()
+        for run, _, line in asked_plans():
+            bad = opinion.filters_left(run)[1]
+            requests = in_eights(run)
+            if bad is None:
+                self.assertTrue(all(len(request) == 8 for request in requests))
+                continue
+            number, place = bad
+            seen.add(number)
+            self.assertIsNone(opinion.filters_left(run[:8 * place])[1])
+            # whatever stands behind it
+            short = run[:8 * place] + requests[place]
+            self.assertEqual(opinion.filters_left(short)[1], bad, line)
+            if len(requests[place]) == 8:
+                self.assertEqual(opinion.filters_left(short + bytes(9))[1], bad, line)
+        self.assertEqual(seen, {*range(1, 8), 18, 19})
+
+    def test_adding_twice(self):
+        chance = cases.Chance(215)
+        for run, wanted, _ in asked_plans():
+            requests = in_eights(run)
+            if not requests or not chance.one_in(3):
+                continue
+            # a request that comes twice changes nothing more, where it adds and where it clears; nor do adding and clearing mask 0
+            place = chance.below(len(requests))
+            again = chance.pick([requests[place], cases.added(*chance.pick(cases.PLAN_KEYS), 0), cases.cleared(*chance.pick(cases.PLAN_KEYS), 0)])
+            twice = b"".join(requests[:place + 1] + [again] + requests[place + 1:])
+            bad = opinion.filters_left(run)[1]
+            if bad and bad[1] <= place:
+                continue
+            self.assertEqual(masks_left(twice), masks_left(run))
+            self.assertEqual(opinion.filters_left(twice)[1], bad and (bad[0], bad[1] + 1))
+            if not bad:
+                self.assertEqual(opinion.plan_fields(twice, wanted), opinion.plan_fields(run, wanted))
+
+    def test_hidden_since(self):
+        found = 0
+        for run, wanted, _ in asked_plans():
+            fields = opinion.plan_fields(run, wanted)
+            if fields[:2] != [0, "hidden"] or len(run) > 200:
+                continue
+            event = opinion.wanted_in(wanted)[fields[2]]
+            requests, key, bit = in_eights(run), event[:2], 1 << event[2]
+            hidden = [opinion.filters_left(run[:8 * count])[0].hides(*event) for count in range(len(requests) + 1)]
+            since = plan.hidden_since([opinion.read_change(request) for request in requests], event)
+            # the first request from which on the event stays hidden to the end
+            self.assertEqual(since, next(place for place in range(len(requests)) if all(hidden[place + 1:])))
+            # "before which the event was not hidden", it "adds its type to its address and instance", "no request behind it clears that type there"
+            self.assertFalse(hidden[since])
+            change = opinion.read_change(requests[since])
+            self.assertTrue(change.adds and change.key == key and change.mask & bit)
+            later = [opinion.read_change(request) for request in requests[since + 1:]]
+            self.assertFalse([change for change in later if not change.adds and change.key == key and change.mask & bit])
+            found += since > 0
+        self.assertGreater(found, 500)
+
+    def test_plans_of_the_page(self):
+        for requests, text, answer in STATED_PLANS:
+            files = {"plan": bytes.fromhex(requests), "wanted": text.encode("ascii")}
+            self.assertEqual(plan_printed(["--list", "plan", "wanted"], files), (answer.encode("ascii"), b""))
+            short = answer[:answer.index("filters left: " if "filters left: " in answer else "filters before ")]
+            self.assertEqual(plan_printed(["plan", "wanted"], files), (short.encode("ascii"), b""))
+        for words, line in STATED_FAULTS:
+            self.assertEqual(plan_printed(words, {}), (b"", b"plan: " + line.encode("ascii") + b"\n"))
+        self.assertEqual(plan_printed([], {}), plan_printed(["--help", "plan"], {}))
+
+    def test_wanted_lists(self):
+        def events(text):
+            try:
+                return plan.events_of(b"W", text)
+            except plan.Wrong as wrong:
+                return wrong.line.decode("ascii")
+        for text, found in [
+                (b"", []), (b"\n", []), (b" \t\r\n# 1\n\t#2 3 4\n", []), (b"1 2 3", [(1, 2, 3)]), (b"01\r002\t 0003\n255 0 255\n", [(1, 2, 3), (255, 0, 255)]),
+                (b"1 2", "W, line 1: " + NOT_A_LINE), (b"1 2 3\n\n#\n1 2 3 4\n1", "W, line 4: " + NOT_A_LINE), (b"1 2 256", "W, line 1: " + NOT_A_LINE),
+                (b"\n+1 2 3", "W, line 2: " + NOT_A_LINE), (b"1 2 3#", "W, line 1: " + NOT_A_LINE), (b"1\x0B2 3", "W, line 1: " + NOT_A_LINE)]:
+            self.assertEqual(events(text), found)
+        # each bad line alone; the good texts of the runs, as events written in the plainest way
+        for line in plans.BAD_LINES:
+            self.assertEqual(events(b"#\n" + line + b"\n"), "W, line 2: " + NOT_A_LINE)
+        for text in plans.GOOD_TEXTS.values():
+            self.assertEqual(events(plans.text_of(events(text))), events(text))
+
+    def test_files_of_runs(self):
+        found = plans.contents()
+        kinds = [plans.good_plans(), plans.bad_plans(), plans.large_plans(), plans.GOOD_TEXTS, plans.bad_texts(), plans.large_texts()]
+        self.assertEqual(len(found), 3 + sum(len(list(kind)) for kind in kinds))
+        sizes = [len(run) for run in found.values()]
+        self.assertTrue(sizes.count(1048576) > 1 and sizes.count(1048577) > 1)
+        numbers = {opinion.filters_left(b"".join(requests))[1][0] for _, requests in plans.bad_plans()}
+        self.assertEqual(numbers, {*range(1, 8), 18, 19})
+        self.assertFalse([name for name, requests, _ in plans.good_plans() if opinion.filters_left(b"".join(requests))[1]])
 
     def test_boundaries_that_do_not_rise(self):
         capture = empty_capture(1, 30)

@@ -1,6 +1,6 @@
 // What the words of a command line ask for: an option, a number, a MAC address, a boundary between two seasons. It leans on event for a MAC
 // address, on calendar for the midnight of a date, on text for what digits say, on words for quoted text, on refusal for the words of a test.
-// docs/SHEET.md, "Arguments".
+// docs/SHEET.md, "Arguments"; the program plan asks it for its option and its files, and crate plan_wanted for numbers.
 ghost use Prim.Native.Nat.{_≤_};
 ghost use mathlib.Core.Path.{_≡_};
 ghost use lib.ListN.{length};
@@ -45,7 +45,7 @@ pub enum Asked {
 }
 
 // Whether two runs have the same bytes.
-fn same(a: &[u8], b: &[u8]) -> bool
+pub fn same(a: &[u8], b: &[u8]) -> bool
     ensures { λ r. ⌜ r ≡ isSame (now (a .entry)) (now (b .entry)) ⌝ }
 {
     if a.len() < b.len() {
@@ -65,7 +65,7 @@ fn same(a: &[u8], b: &[u8]) -> bool
 }
 
 // Whether a word begins as an option does.
-fn is_option(s: &[u8]) -> bool
+pub fn is_option(s: &[u8]) -> bool
     ensures { λ r. ⌜ r ≡ isOption (now (s .entry)) ⌝ }
 {
     if s.len() < 2 {

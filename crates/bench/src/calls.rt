@@ -267,6 +267,7 @@ fn plain(n: usize, s: &[u8], t: &[u8], u: &[u8], out: &mut [u8], at: usize) -> u
         8 => wrote(n, s, t, u, out, at),
         9 => bench_datagrams::say(out, at, read(n, s)),
         11 => bench_calls::help(out, at),
+        14 => bench_plan::say(out, at, filter_plan::check(s, t)),
         _ => bench_say::run(out, at, b"0 data", data_part(n, s)),
     }
 }

@@ -110,6 +110,8 @@ table =
     ∷ row "seasons_begin" 0xD1_1_017_017_FFF_FFF
     ∷ row "seasons_part" 0xD2_1_000_FFF_FFF_FFF
     ∷ row "seasons_end" 0xD3_1_000_000_FFF_FFF
+    -- A filter plan
+    ∷ row "plan" 0xE0_2_000_FFF_FFF_FFF
     -- Help
     ∷ row "help" 0xB0_1_000_000_FFF_FFF
     ∷ []

@@ -76,16 +76,16 @@ fn help() {
 Reports the occupied events, button presses and holds of one corridor in a capture,\n\
 and the gaps between its occupied events, in four seasons. Prints CSV.\n\
 \n\
-  FILE      the capture, or - for standard input\n\
-  MAC       its controller: six bytes in hexadecimal, as 7C:BA:CC:2F:40:2E\n\
-  TARGET    the target of its events, 0 to 4294967295\n\
-  INSTANCE  their instance, 0 to 255\n\
-  FIRST, SECOND, THIRD\n\
-            where the second, the third and the fourth season begin: a date, as\n\
-            2026-03-01, at midnight UTC; or seconds since 1970\n\
-  --text    prints a page to read, with dates, mean gaps and bars\n\
-  --svg     prints a picture\n\
-  --help    prints this\n\
+\x20 FILE      the capture, or - for standard input\n\
+\x20 MAC       its controller: six bytes in hexadecimal, as 7C:BA:CC:2F:40:2E\n\
+\x20 TARGET    the target of its events, 0 to 4294967295\n\
+\x20 INSTANCE  their instance, 0 to 255\n\
+\x20 FIRST, SECOND, THIRD\n\
+\x20           where the second, the third and the fourth season begin: a date, as\n\
+\x20           2026-03-01, at midnight UTC; or seconds since 1970\n\
+\x20 --text    prints a page to read, with dates, mean gaps and bars\n\
+\x20 --svg     prints a picture\n\
+\x20 --help    prints this\n\
 \n\
 Without a sheet on standard output, a line on standard error tells why, and for a\n\
 bad capture which record (from 1), and the byte where it begins (from 0).\n\

@@ -33,6 +33,8 @@ table =
     ∷ row 0x0_0F "BAD_RECORD"
     ∷ row 0x0_10 "EARLIER_TIME"
     ∷ row 0x0_11 "RETIRED"
+    ∷ row 0x0_12 "NOT_A_FILTER"
+    ∷ row 0x0_13 "FILTERS_FULL"
     ∷ row 0x0_14 "NOT_RISING"
     -- 1: commands
     ∷ row 0x1_01 "QUERY_GROUP_LABEL"
@@ -107,3 +109,11 @@ nameIn (row k s ∷ rows) key = pick (eqb k key) (full (text s)) (nameIn rows ke
 
 unfoldable pub nameOf : ℕ → ℕ → Answer (List ℕ)
 nameOf kind number = nameIn table (kind * 256 + number)
+
+-- the bytes of a name, none where there is none
+abbrev pub named : Answer (List ℕ) → List ℕ
+named (refused k) = []
+named (full s) = s
+
+unfoldable pub nameText : ℕ → ℕ → List ℕ
+nameText kind number = named (nameOf kind number)

@@ -3,10 +3,10 @@ use Prim.Native.Nat.{ℕ, suc, _+_, _*_, _≤_, _<_}
 use mathlib.Core.Path.{_≡_, refl, sym, ap, _∙_}
 use mathlib.Core.Bool.{Bool, true, false}
 use mathlib.Core.List.{List, [], _∷_}
-use lib.ListN.{length, getD, drop, drop-of-length-le}
+use lib.ListN.{length, getD, drop, drop-of-length-le, List·getD-eq-default}
 use lib.Seq.{drop-cons}
-use lib.Dec.{eqb, leb}
-use borrow.Author.Tests.{leb-true, leb-false, lt-leb}
+use lib.Dec.{eqb, leb, ltb}
+use borrow.Author.Tests.{leb-true, leb-false, lt-leb, ltb-true, ltb-false}
 use native.Mathlib.Omega.{arith}
 use Rattle.refusal.specs.Test.{pick}
 use Rattle.refusal.specs.Answer.{refused, full}
@@ -15,7 +15,7 @@ use Rattle.words.specs.Words.{text, before, wordIn, joined, proper}
 use Rattle.words.specs.Joined.{word-joined, word-some}
 use Rattle.frame.specs.Written.{Written, put-written}
 use Rattle.frame.specs.declared.Wrote.the-variants.{Count, Refused}
-use Rattle.names.specs.Names.{Row, row, table, nameIn, nameOf}
+use Rattle.names.specs.Names.{Row, row, table, nameIn, nameOf, named, nameText}
 
 abbrev pub keysOf : List Row → List ℕ
 keysOf [] = []
@@ -75,13 +75,22 @@ unfolding before
 names-proper = refl
 
 module _ (kind number k : ℕ) (e : k ≡ placeIn (kind * 256 + number) keys) where
-  pub name-found : k < 79 → nameOf kind number ≡ full (wordIn 32 k names)
+  pub name-found : k < 81 → nameOf kind number ≡ full (wordIn 32 k names)
   unfolding nameOf
   name-found h = name-there (kind * 256 + number) table (rw (← e) h) ∙ rw (← e) (ap full (sym (word-joined 32 (namesOf table) names-proper k)))
 
-  pub name-none : 79 ≤ k → nameOf kind number ≡ refused 7
+  pub name-none : 81 ≤ k → nameOf kind number ≡ refused 7
   unfolding nameOf
   name-none h = name-nowhere (kind * 256 + number) table (rw (← e) h)
+
+  -- so the word at the key's place is the name, or none
+  pub name-text : nameText kind number ≡ wordIn 32 k names
+  unfolding nameText
+  name-text = go (ltb k 81) refl
+    where
+      go : (t : Bool) → ltb k 81 ≡ t → nameText kind number ≡ wordIn 32 k names
+      go true h = ap named (name-found (ltb-true k 81 h))
+      go false h = ap named (name-none (ltb-false k 81 h)) ∙ sym (word-joined 32 (namesOf table) names-proper k ∙ List·getD-eq-default (namesOf table) [] {n = k} (ltb-false k 81 h))
 
 -- a text of some bytes that was put at the front of a buffer is written, and none was put exactly where there is no room for it
 module _ (f out out′ : List ℕ) (n : ℕ) (s : 0 < length f) (w : Puts f out 0 n out′) where
@@ -101,5 +110,5 @@ module _ (f out out′ : List ℕ) (n : ℕ) (s : 0 < length f) (w : Puts f out 
           let r : leb (length f) (length out) ≡ false = lt-leb (length f) (length out) (omega (arith, leb-false (0 + length f) (length out) e)) in
           record { says = rw r; leaves = rw r q }
 
-pub name-some : (k : ℕ) → k < 79 → 0 < length (wordIn 32 k names)
+pub name-some : (k : ℕ) → k < 81 → 0 < length (wordIn 32 k names)
 name-some k h = rw (word-joined 32 (namesOf table) names-proper k) (word-some 32 (namesOf table) names-proper k h)

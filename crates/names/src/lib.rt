@@ -1,9 +1,11 @@
 // Names of numbers as text, for programs that print them: of refusals, commands, types of replies, error codes and types of events. It
-// leans on crate words, which finds a name by its place, and on crate frame for what a writer answers.
+// leans on crate words, which finds a name by its place, on crate lent for what is put from a place on, and on crate frame for what a writer answers.
 ghost use mathlib.Core.Path.{_≡_};
+ghost use Rattle.lent.specs.Puts.{Puts};
 ghost use Rattle.frame.specs.Written.{Written};
-ghost use Rattle.names.specs.Names.{nameOf};
-ghost use Rattle.names.specs.Places.{placeIn, keys};
+ghost use Rattle.words.specs.Words.{wordIn};
+ghost use Rattle.names.specs.Names.{nameOf, nameText};
+ghost use Rattle.names.specs.Places.{placeIn, keys, names};
 use frame::Wrote;
 
 // The kinds of numbers that have names.
@@ -18,7 +20,7 @@ pub const ERROR: u8 = 3;
 pub const EVENT: u8 = 4;
 
 // A row for each name: its kind and its number, as digits of one hexadecimal number.
-const KEYS: [u16; 79] = [
+const KEYS: [u16; 81] = [
     // Refusals
     0x0_00, // OK
     0x0_01, // TOO_SHORT
@@ -38,6 +40,8 @@ const KEYS: [u16; 79] = [
     0x0_0F, // BAD_RECORD
     0x0_10, // EARLIER_TIME
     0x0_11, // RETIRED
+    0x0_12, // NOT_A_FILTER
+    0x0_13, // FILTERS_FULL
     0x0_14, // NOT_RISING
     // Commands
     0x1_01, // QUERY_GROUP_LABEL
@@ -110,7 +114,7 @@ fn place(key: u16) -> usize
     ensures { λ r. ⌜ r ≡ placeIn key keys ⌝ }
 {
     let mut k: usize = 0;
-    while k < 79 {
+    while k < 81 {
         if KEYS[k] == key {
             return k;
         }
@@ -119,22 +123,17 @@ fn place(key: u16) -> usize
     k
 }
 
-// Puts the name of a number of a kind: 7 where it has none, 8 where the buffer is shorter than the name. The names stand in the order of
-// the rows, a blank behind each.
-pub fn name(kind: u8, number: u8, out: &mut [u8]) -> Wrote
-    ensures { λ r. ⌜ Written (nameOf kind number) (now (out .entry)) r (now (out .exit)) ⌝ }
+// Puts the name of a row; where there are fewer rows, nothing. The names stand in the order of the rows, a blank behind each.
+fn of_row(out: &mut [u8], at: usize, k: usize) -> usize
+    ensures { λ r. ⌜ Puts (wordIn 32 k names) (now (out .entry)) at r (now (out .exit)) ⌝ }
 {
-    let k = place((kind as u16) * 256 + (number as u16));
-    if 79 <= k {
-        return Wrote::Refused(7);
-    }
-    let n = words::put(
+    words::put(
         out,
-        0,
+        at,
         b"OK TOO_SHORT BAD_LEAD UNKNOWN_COMMAND BAD_LENGTH_BYTE BAD_LENGTH BAD_SUM BAD_ARGUMENT NO_ROOM \
 NO_NUMBER_FREE NOT_AWAITED BAD_DATA_SIZE NONE_THERE OUTSIDE_PROFILE UNKNOWN_VERSION BAD_RECORD \
-EARLIER_TIME RETIRED NOT_RISING QUERY_GROUP_LABEL ENABLE_TPI_EVENT_EMIT QUERY_GROUP_NUMBERS QUERY_SCENE_NUMBERS \
-QUERY_PROFILE_NUMBERS QUERY_OCCUPANCY_INSTANCE_TIMERS DALI_COLOUR QUERY_SCENE_NUMBERS_FOR_GROUP \
+EARLIER_TIME RETIRED NOT_A_FILTER FILTERS_FULL NOT_RISING QUERY_GROUP_LABEL ENABLE_TPI_EVENT_EMIT \
+QUERY_GROUP_NUMBERS QUERY_SCENE_NUMBERS QUERY_PROFILE_NUMBERS QUERY_OCCUPANCY_INSTANCE_TIMERS DALI_COLOUR QUERY_SCENE_NUMBERS_FOR_GROUP \
 QUERY_SCENE_LABEL_FOR_GROUP QUERY_CONTROLLER_VERSION_NUMBER QUERY_CONTROL_GEAR_DALI_ADDRESSES \
 QUERY_DMX_DEVICE_LABEL_BY_NUMBER DALI_ADD_TPI_EVENT_FILTER QUERY_DALI_TPI_EVENT_FILTERS \
 DALI_CLEAR_TPI_EVENT_FILTERS QUERY_DALI_COLOUR SET_TPI_EVENT_UNICAST_ADDRESS \
@@ -148,7 +147,26 @@ ABSOLUTE_INPUT LEVEL_CHANGE GROUP_LEVEL_CHANGE SCENE_CHANGE IS_OCCUPIED IS_UNOCC
 COLOUR_CHANGED PROFILE_CHANGED ",
         b' ',
         k,
-    );
+    )
+}
+
+// Puts the name of a number of a kind from a place on; where it has none, nothing.
+pub fn put(out: &mut [u8], at: usize, kind: u8, number: u8) -> usize
+    ensures { λ r. ⌜ Puts (nameText kind number) (now (out .entry)) at r (now (out .exit)) ⌝ }
+{
+    let row = place((kind as u16) * 256 + (number as u16));
+    of_row(out, at, row)
+}
+
+// Puts the name of a number of a kind: 7 where it has none, 8 where the buffer is shorter than the name.
+pub fn name(kind: u8, number: u8, out: &mut [u8]) -> Wrote
+    ensures { λ r. ⌜ Written (nameOf kind number) (now (out .entry)) r (now (out .exit)) ⌝ }
+{
+    let k = place((kind as u16) * 256 + (number as u16));
+    if 81 <= k {
+        return Wrote::Refused(7);
+    }
+    let n = of_row(out, 0, k);
     if n == 0 {
         return Wrote::Refused(8);
     }

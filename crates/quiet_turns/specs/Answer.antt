@@ -9,7 +9,7 @@ use Rattle.frame.specs.Frame.{byte}
 use Rattle.stream.specs.Stream.{items}
 use Rattle.line.specs.declared.Line.the-variants.{Request}
 use Rattle.line.specs.Rule.{settle}
-use Rattle.text.specs.Text.{hexOf, decimalOf}
+use Rattle.text.specs.Text.{hexOf, hexTexts, decimalOf}
 use Rattle.quiet_run.specs.Quiet.{First, none, loud, firstLoud}
 
 -- a place is counted in 64 bits: one that is full stays so
@@ -18,11 +18,6 @@ full64 = 18446744073709551615
 
 abbrev pub plus : ℕ → ℕ → ℕ
 plus a b = min (a + b) full64
-
--- HEX: each byte in two capital digits, without blanks
-unfoldable pub hexTexts : List ℕ → List (List ℕ)
-hexTexts [] = []
-hexTexts (b ∷ l) = hexOf b ∷ hexTexts l
 
 -- REASON, by the item's number
 abbrev pub outsideTexts : List ℕ → List (List ℕ)

@@ -20,13 +20,13 @@ use Rattle.line.specs.Line.{capOf}
 use Rattle.line.specs.Rule.{itemAt, settle}
 use Rattle.line.specs.Laws.{lawful, waits-few}
 use Rattle.line.specs.Says.{stands-at}
-use Rattle.text.specs.Text.{decimalOf}
+use Rattle.text.specs.Text.{decimalOf, hexTexts}
 use Rattle.text.specs.Decimal.{decimal-most}
 use Rattle.text.specs.Digits.{decimal-one}
 use Rattle.items.specs.Room.{number-digit}
 use Rattle.quiet_run.specs.Quiet.{First, none, loud, firstLoud}
 use Rattle.quiet_run.specs.Laws.{first-stands}
-use Rattle.quiet_turns.specs.Answer.{plus, hexTexts, outsideTexts, reasonTexts, placeTexts, loudTexts, closedTexts}
+use Rattle.quiet_turns.specs.Answer.{plus, outsideTexts, reasonTexts, placeTexts, loudTexts, closedTexts}
 
 -- an item's number has one digit, and the item at most 13 bytes
 item-small : (closed : Bool) (s : List ℕ) (k m : ℕ) → itemAt Request closed s ≡ stands k m → (k < 10) × (m ≤ suc (capOf Request))

@@ -6,7 +6,7 @@ ghost use mathlib.Core.Path.{_≡_};
 ghost use lib.ListN.{length};
 ghost use Rattle.frame.specs.Frame.{byte};
 ghost use Rattle.lent.specs.All.{PutsAll};
-ghost use Rattle.quiet_turns.specs.Answer.{plus, hexTexts, outsideTexts, reasonTexts, placeTexts, loudTexts, closedTexts};
+ghost use Rattle.quiet_turns.specs.Answer.{plus, outsideTexts, reasonTexts, placeTexts, loudTexts, closedTexts};
 ghost use Rattle.quiet_turns.specs.Turn.{start, Onward, Turns};
 use quiet_run::Found;
 use quiet_run::Scanned;
@@ -58,19 +58,6 @@ fn third(item: &[u8]) -> u8
         return 0;
     }
     item[2]
-}
-
-// Puts the bytes of an item in hexadecimal.
-fn hexes(out: &mut [u8], at: usize, item: &[u8]) -> usize
-    ensures { λ r. ⌜ PutsAll (hexTexts (now (item .entry))) (now (out .entry)) at r (now (out .exit)) ⌝ }
-{
-    let mut e = at;
-    let mut i: usize = 0;
-    while i < item.len() {
-        e = text::hex(out, e, item[i]);
-        i += 1;
-    }
-    e
 }
 
 // Puts why a request is not quiet that is accepted: its command is outside the profile.
@@ -126,7 +113,7 @@ fn loud(out: &mut [u8], n: u64, number: u8, item: &[u8]) -> usize
 {
     let a = place(out, n, number);
     let b = lent::word(out, a, b", ");
-    let c = hexes(out, b, item);
+    let c = text::hexes(out, b, item);
     let d = lent::word(out, c, b": ");
     let e = reason(out, d, number, item);
     lent::byte(out, e, b'\n')

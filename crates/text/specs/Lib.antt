@@ -5,3 +5,4 @@ pub mod Decimal
 -- what only serves proofs
 pub mod Digits
 pub mod Spell
+pub mod Hexes

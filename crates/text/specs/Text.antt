@@ -22,6 +22,11 @@ digitOf c =
 abbrev pub hexOf : ℕ → List ℕ
 hexOf b = digit (b / 16) ∷ digit (b % 16) ∷ []
 
+-- the bytes of a run in hexadecimal, one behind the other
+unfoldable pub hexTexts : List ℕ → List (List ℕ)
+hexTexts [] = []
+hexTexts (b ∷ l) = hexOf b ∷ hexTexts l
+
 -- a number in decimal, where k digits are enough for it: the digits of its tenth, and its last digit behind them
 unfoldable pub decimalIn : ℕ → ℕ → List ℕ
 decimalIn zero n = []

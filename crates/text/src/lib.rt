@@ -1,11 +1,12 @@
-// Text in a lent buffer, from a place on: a byte as two hexadecimal digits, a number in decimal. Each function that puts one answers the place
+// Text in a lent buffer, from a place on: a byte as two hexadecimal digits, those of a run, a number in decimal. Each function that puts one answers the place
 // behind what it wrote; where there is no room for the whole of it, it writes nothing and answers the place that it was given
-// (crate lent, whose contract it has). It is what a program's output is made of: document 01, "A small program". Beside it what a
+// (crate lent, whose contract it has); of a run this goes for each byte. It is what a program's output is made of: document 01, "A small program". Beside it what a
 // hexadecimal digit says, for what is read.
 ghost use Prim.Native.Nat.{_/_, _%_, _<_};
 ghost use mathlib.Core.Path.{_≡_};
 ghost use lib.ListN.{length};
-ghost use Rattle.text.specs.Text.{digit as digitOf, digitOf as digitValue, hexOf, decimalOf};
+ghost use Rattle.text.specs.Text.{digit as digitOf, digitOf as digitValue, hexOf, hexTexts, decimalOf};
+ghost use Rattle.lent.specs.All.{PutsAll};
 ghost use Rattle.lent.specs.Puts.{Puts};
 
 // A digit, `0` to `9`, then `A` to `F`.
@@ -70,6 +71,19 @@ pub fn hex(out: &mut [u8], at: usize, b: u8) -> usize
     out[at] = high;
     out[at + 1] = low;
     at + 2
+}
+
+// Puts the bytes of a run in hexadecimal, each where it has room.
+pub fn hexes(out: &mut [u8], at: usize, s: &[u8]) -> usize
+    ensures { λ r. ⌜ PutsAll (hexTexts (now (s .entry))) (now (out .entry)) at r (now (out .exit)) ⌝ }
+{
+    let mut e = at;
+    let mut i: usize = 0;
+    while i < s.len() {
+        e = hex(out, e, s[i]);
+        i += 1;
+    }
+    e
 }
 
 // How many decimal digits a number has.

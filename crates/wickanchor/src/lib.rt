@@ -2,7 +2,7 @@
 // bytes is a pointer and then a length; a result is a struct by value, laid out as C does. A refusal is its number by documents 01 and 02,
 // and 0 stands for none; every other field of a refused call is 0, but for a mark, bytes in use and a summary that were handed in.
 // include/wickanchor.h declares them for C. Each function hands on what the crate of its subject answers, as crates c_datagrams, c_values,
-// c_capture and c_seasons put it, and its contract cites that crate's definition.
+// c_capture, c_seasons and c_plan put it, and its contract cites that crate's definition.
 ghost use mathlib.Core.Path.{_≡_};
 ghost use mathlib.Core.Bool.{not};
 ghost use mathlib.Core.List.{[], _∷_};
@@ -26,6 +26,8 @@ ghost use Rattle.event.specs.Writing.{eventFrame};
 ghost use Rattle.names.specs.Names.{nameOf as textOf};
 ghost use Rattle.maps.specs.Maps.{maskOf, scenesOf, gearOf, typesOf, countOf, lowestOf};
 ghost use Rattle.filters.specs.Filters.{filtersOf, entryOf};
+ghost use Rattle.filter_plan.specs.Plan.{leftOf, checked, sinceOf};
+ghost use Rattle.filter_plan.specs.Table.{leftBy};
 ghost use Rattle.summary.specs.Summary.{countedIn, counting};
 ghost use Rattle.capture.specs.Capture.{opened, counted, prefixed, found, nothingKept, entryAt};
 ghost use Rattle.report.specs.Report.{reported, reporting};
@@ -48,6 +50,7 @@ ghost use Rattle.c_capture.specs.Captures.{summaryIn, markIn, foundOut, openedO
 ghost use Rattle.c_capture.specs.Records.{recordOut};
 ghost use Rattle.c_seasons.specs.Seasons.{corridorIn, boundariesIn, seasonsOut};
 ghost use Rattle.c_seasons.specs.States.{stateIn, stateOut};
+ghost use Rattle.c_plan.specs.Plans.{verdictOut, leftOut, sinceOut};
 use c_capture::WickAppended;
 use c_capture::WickCapture;
 use c_capture::WickCounted;
@@ -65,6 +68,9 @@ use c_datagrams::WickMac;
 use c_datagrams::WickReply;
 use c_datagrams::WickRequest;
 use c_datagrams::WickWrote;
+use c_plan::WickPlan;
+use c_plan::WickPlanLeft;
+use c_plan::WickSince;
 use c_seasons::WickBoundaries;
 use c_seasons::WickCorridor;
 use c_seasons::WickSeasons;
@@ -871,4 +877,28 @@ pub extern "C" fn wick_seasons_end(state: WickSeasonsState) -> WickSeasons
     ensures { λ w. ⌜ w ≡ seasonsOut (reporting (ended (stateIn state))) ⌝ }
 {
     c_seasons::seasons_out(by_parts::end(c_seasons::state_in(state)))
+}
+
+// The check of a filter plan against the events that are wanted.
+#[no_mangle]
+pub extern "C" fn wick_plan(plan: &[u8], wanted: &[u8]) -> WickPlan
+    ensures { λ w. ⌜ w ≡ verdictOut (checked (now (plan .entry)) (now (wanted .entry))) ⌝ }
+{
+    c_plan::verdict_out(filter_plan::check(plan, wanted))
+}
+
+// The filters that a plan leaves; where a request is bad, those that stood before it.
+#[no_mangle]
+pub extern "C" fn wick_plan_left(plan: &[u8]) -> WickPlanLeft
+    ensures { λ w. ⌜ w ≡ leftOut (leftBy (leftOf (now (plan .entry)))) ⌝ }
+{
+    c_plan::left_out(filter_plan::leaves(plan))
+}
+
+// Since which request of a plan an event is hidden to its end.
+#[no_mangle]
+pub extern "C" fn wick_plan_since(plan: &[u8], address: u8, instance: u8, kind: u8) -> WickSince
+    ensures { λ w. ⌜ w ≡ sinceOut (sinceOf (now (plan .entry)) address instance kind) ⌝ }
+{
+    c_plan::since_out(filter_plan::hidden_since(plan, address, instance, kind))
 }

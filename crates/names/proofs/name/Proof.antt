@@ -20,21 +20,18 @@ returns c =
     let p = c .before .place in
     refuses (a .out .now) (name-none (a .kind) (a .number) (p .result) (p .ensures) (c .if1 .taken))
 
-slice-aggregate-put : tie.Need-slice-aggregate-put
-slice-aggregate-put c = search needs
-
-put-requires : tie.Need-put-requires
-put-requires c κs = search needs
+of-row-requires : tie.Need-of-row-requires
+of-row-requires c κs = search needs
 
 same-length : tie.Need-same-length
 same-length c = search needs
 
 returns-2 : tie.Need-returns-2
 returns-2 c =
-    let at = c .before .before .before .before .before .before in
+    let at = c .before .before .before .before .before in
     let a = at .before .before .before .args in
     let p = at .before .place in
-    let w = c .before .before .before .put in
+    let w = c .before .before .before .of-row in
     let h = at .if1 .left in
     passes (name-found (a .kind) (a .number) (p .result) (p .ensures) h) (front-refused (wordIn 32 (p .result) names) (a .out .now) (w .last .0) (w .result) (name-some (p .result) h) (w .ensures) (c .if2 .taken))
 
@@ -43,10 +40,10 @@ same-length-2 c = search needs
 
 returns-3 : tie.Need-returns-3
 returns-3 c =
-    let at = c .before .before .before .before .before .before in
+    let at = c .before .before .before .before .before in
     let a = at .before .before .before .args in
     let p = at .before .place in
-    let w = c .before .before .before .put in
+    let w = c .before .before .before .of-row in
     let h = at .if1 .left in
     passes (name-found (a .kind) (a .number) (p .result) (p .ensures) h) (front-written (wordIn 32 (p .result) names) (a .out .now) (w .last .0) (w .result) (name-some (p .result) h) (w .ensures) (c .if2 .left))
 
@@ -58,8 +55,7 @@ name-spec =
     add-place
     place-requires
     returns
-    slice-aggregate-put
-    put-requires
+    of-row-requires
     same-length
     returns-2
     same-length-2

@@ -3,16 +3,16 @@ use mathlib.Core.Path.{_≡_, refl}
 use lib.ListN.{length, drop}
 use borrow.Author.Needs.{needs}
 use Rattle.lent.specs.Behind.{puts-next, puts-none, Rest, rest-whole, rest-less, rest-none}
-use Rattle.quiet_turns.specs.Answer.{hexTexts}
-use Rattle.quiet_turns.specs.Putting.{hex-next, hex-end}
-use Rattle.quiet_turns.proofs.hexes.Statement.{statement}
-use Rattle.quiet_turns.proofs.hexes.Tie as tie
+use Rattle.text.specs.Text.{hexTexts}
+use Rattle.text.specs.Hexes.{hex-next, hex-end}
+use Rattle.text.proofs.hexes.Statement.{statement}
+use Rattle.text.proofs.hexes.Tie as tie
 
 abbrev Inv-loop : tie.InvT-loop
-Inv-loop out₀ at item e₀ i₀ out e i = (i ≤ length item) × (length out ≡ length out₀) × Rest (hexTexts item) out₀ at (hexTexts (drop i item)) out e
+Inv-loop out₀ at s e₀ i₀ out e i = (i ≤ length s) × (length out ≡ length out₀) × Rest (hexTexts s) out₀ at (hexTexts (drop i s)) out e
 
 abbrev μ-loop : tie.MeasureT-loop
-μ-loop out₀ at item e₀ i₀ out e i = length item - i
+μ-loop out₀ at s e₀ i₀ out e i = length s - i
 
 loop-holds : tie.Need-loop-holds Inv-loop μ-loop
 loop-holds c = (search needs, refl, rest-whole _ _ _)
@@ -32,7 +32,7 @@ loop-less c = search needs
 loop-again : tie.Need-loop-again Inv-loop μ-loop
 loop-again c =
     let l = c .before .before .before .before .before .before .loop in
-    let s = c .before .before .before .before .before .before .before .before .before .args .item .now in
+    let s = c .before .before .before .before .before .before .before .before .before .args .s .now in
     (search needs, search needs, rest-less (hexTexts (drop (l .i + 1) s)) (rw (hex-next s (l .i) (search needs)) at (l .inv .2)) (puts-next (c .before .before .hex .ensures) (puts-none _ _)))
 
 same-length : tie.Need-same-length Inv-loop μ-loop

@@ -1,0 +1,94 @@
+use borrow.Author.Needs.{needs}
+use Rattle.lent.specs.Behind.{puts-next, puts-none}
+use Rattle.bench_plan.proofs.say.Statement.{statement}
+use Rattle.bench_plan.proofs.say.Tie as tie
+
+enum-told : tie.Need-enum-told
+enum-told c = search needs
+
+slice-aggregate-word : tie.Need-slice-aggregate-word
+slice-aggregate-word c = search needs
+
+word-requires : tie.Need-word-requires
+word-requires c κs = search needs
+
+enum-known-v : tie.Need-enum-known-v
+enum-known-v c = search needs
+
+cast-decimal : tie.Need-cast-decimal
+cast-decimal c = search needs
+
+decimal-requires : tie.Need-decimal-requires
+decimal-requires c κs = search needs
+
+slice-aggregate-word-2 : tie.Need-slice-aggregate-word-2
+slice-aggregate-word-2 c = search needs
+
+word-requires-2 : tie.Need-word-requires-2
+word-requires-2 c κs = search needs
+
+decimal-requires-2 : tie.Need-decimal-requires-2
+decimal-requires-2 c κs = search needs
+
+enum-known-v-2 : tie.Need-enum-known-v-2
+enum-known-v-2 c = search needs
+
+slice-aggregate-word-3 : tie.Need-slice-aggregate-word-3
+slice-aggregate-word-3 c = search needs
+
+word-requires-3 : tie.Need-word-requires-3
+word-requires-3 c κs = search needs
+
+decimal-requires-3 : tie.Need-decimal-requires-3
+decimal-requires-3 c κs = search needs
+
+same-length : tie.Need-same-length
+same-length c = search needs
+
+returns : tie.Need-returns
+returns c =
+    let z = c .before .before in
+    rw (z .before .before .before .enum-told .given .1) (puts-next (z .word .ensures) (puts-none _ _))
+
+same-length-2 : tie.Need-same-length-2
+same-length-2 c = search needs
+
+returns-2 : tie.Need-returns-2
+returns-2 c =
+    let z = c .before .before in
+    let y = z .before .before .before .before in
+    let x = y .before .before .before .before .before in
+    rw (x .before .before .before .v .given .1) (puts-next (x .decimal .ensures) (puts-next (y .word2 .ensures) (puts-next (z .decimal2 .ensures) (puts-none _ _))))
+
+same-length-3 : tie.Need-same-length-3
+same-length-3 c = search needs
+
+returns-3 : tie.Need-returns-3
+returns-3 c =
+    let z = c .before .before in
+    let y = z .before .before .before .before in
+    rw (y .before .before .before .before .v2 .given .1) (puts-next (y .word3 .ensures) (puts-next (z .decimal3 .ensures) (puts-none _ _)))
+
+pub say-spec : {M : Type 1} → statement M
+say-spec =
+    tie.close
+    (tie.spec
+    enum-told
+    slice-aggregate-word
+    word-requires
+    enum-known-v
+    cast-decimal
+    decimal-requires
+    slice-aggregate-word-2
+    word-requires-2
+    decimal-requires-2
+    enum-known-v-2
+    slice-aggregate-word-3
+    word-requires-3
+    decimal-requires-3
+    same-length
+    returns
+    same-length-2
+    returns-2
+    same-length-3
+    returns-3)
