@@ -10,8 +10,8 @@ use native.Mathlib.Omega.{arith}
 use Rattle.sum.specs.Sum.{sumOf}
 use Rattle.stream.specs.Stream.{Settling, More, Settled}
 use Rattle.stream.specs.Stream.{Item, reading, itemNumber, itemSize, itemsUpTo, items}
-use Rattle.line.specs.declared.Line.{Line}
-use Rattle.line.specs.Line.{inTable}
+use Rattle.extent.specs.declared.Line.{Line}
+use Rattle.extent.specs.Line.{inTable}
 use Rattle.line.specs.Rule.{settle}
 use Rattle.line.specs.Frames.{isWhole, whole-frame, frame-front, frame-judged}
 use Rattle.line.specs.Finds.{Accepted, hasLead, noiseItems, frame-alone, frame-after-noise}

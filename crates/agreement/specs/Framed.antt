@@ -22,10 +22,10 @@ use Rattle.command.specs.Length.{Told, unknown, fixed, tested, lengthOf, basicB
 use Rattle.request.specs.Reading.{readRequest, readBasic, readUnicast, readColoured, readShape, stated}
 use Rattle.reply.specs.Reading.{readReply}
 use Rattle.stream.specs.Stream.{Settled}
-use Rattle.line.specs.declared.Line.{Line}
-use Rattle.line.specs.declared.Line.the-variants.{Request, Reply}
-use Rattle.line.specs.declared.Extent.the-variants.{Wait, Bad, Frame}
-use Rattle.line.specs.Line.{replyLength, lengthExtent, extentOf, inTable}
+use Rattle.extent.specs.declared.Line.{Line}
+use Rattle.extent.specs.declared.Line.the-variants.{Request, Reply}
+use Rattle.extent.specs.declared.Extent.the-variants.{Wait, Bad, Frame}
+use Rattle.extent.specs.Line.{replyLength, lengthExtent, extentOf, inTable}
 use Rattle.line.specs.Cases.{Leads}
 use Rattle.line.specs.Extents.{frame-least}
 use Rattle.agreement.specs.Verdict.{Verdict, accepted, refusedWith, verdict, datagram, frameVerdict, isFramed}

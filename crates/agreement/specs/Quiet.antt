@@ -20,7 +20,7 @@ use Rattle.request.specs.Retired.{heard-command}
 use Rattle.request.specs.Profiled.{written-inside}
 use Rattle.stream.specs.Stream.{Item, reading, whole, items, bytesOf}
 use Rattle.stream.specs.Items.{items-none, items-bytes}
-use Rattle.line.specs.declared.Line.the-variants.{Request}
+use Rattle.extent.specs.declared.Line.the-variants.{Request}
 use Rattle.line.specs.Rule.{settle}
 use Rattle.line.specs.Laws.{lawful}
 use Rattle.line.specs.Finds.{frame-items}

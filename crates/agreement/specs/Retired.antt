@@ -20,7 +20,7 @@ use Rattle.request.specs.Demand2.{written-unmarked}
 use Rattle.stream.specs.Stream.{Settling, More, Settled}
 use Rattle.stream.specs.Stream.{Item, reading, itemNumber, itemSize, whole, itemsUpTo, items}
 use Rattle.stream.specs.Items.{behind, items-none}
-use Rattle.line.specs.declared.Line.the-variants.{Request}
+use Rattle.extent.specs.declared.Line.the-variants.{Request}
 use Rattle.line.specs.Rule.{settle}
 use Rattle.line.specs.Laws.{lawful}
 use Rattle.line.specs.Finds.{frame-items}

@@ -7,8 +7,8 @@ use Rattle.refusal.specs.Test.{pick}
 use Rattle.refusal.specs.Answer.{Answer, refused, full}
 use Rattle.request.specs.Reading.{readRequest}
 use Rattle.reply.specs.Reading.{readReply}
-use Rattle.line.specs.declared.Line.{Line}
-use Rattle.line.specs.declared.Line.the-variants.{Request, Reply}
+use Rattle.extent.specs.declared.Line.{Line}
+use Rattle.extent.specs.declared.Line.the-variants.{Request, Reply}
 
 -- accepted, or refused with a number
 pub data Verdict : Type 0 where

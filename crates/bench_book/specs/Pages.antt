@@ -9,8 +9,8 @@ use Rattle.bench_words.specs.Words.{wideOf, madeBy, frontOf}
 use Rattle.words.specs.Words.{text}
 use Rattle.book.specs.declared.Timed.{Timed}
 use Rattle.book.specs.Ticks.{timed}
-use Rattle.book.specs.declared.Given.{Given}
-use Rattle.book.specs.declared.Given.the-variants.{Number, Refused as given·Refused}
+use Rattle.free_number.specs.declared.Given.{Given}
+use Rattle.free_number.specs.declared.Given.the-variants.{Number, Refused as given·Refused}
 use Rattle.book.specs.declared.Freed.{Freed}
 use Rattle.book.specs.declared.Freed.the-variants.{Command, Refused as freed·Refused}
 use Rattle.bench_book.specs.declared.Page.{Page}

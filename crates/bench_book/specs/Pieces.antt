@@ -6,8 +6,8 @@ use Rattle.words.specs.Words.{before, wordIn, text}
 use Rattle.bench_say.specs.Pieces.{piecesTexts, three, byted}
 use Rattle.bench_say.specs.declared.Pieces.{Pieces}
 use Rattle.book.specs.declared.Timed.{Timed}
-use Rattle.book.specs.declared.Given.{Given}
-use Rattle.book.specs.declared.Given.the-variants.{Number, Refused as given·Refused}
+use Rattle.free_number.specs.declared.Given.{Given}
+use Rattle.free_number.specs.declared.Given.the-variants.{Number, Refused as given·Refused}
 use Rattle.book.specs.declared.Freed.{Freed}
 use Rattle.book.specs.declared.Freed.the-variants.{Command, Refused as freed·Refused}
 use Rattle.bench_book.specs.declared.Page.{Page}

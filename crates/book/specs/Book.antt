@@ -1,50 +1,15 @@
--- Document 01, "The book of unanswered requests": what asking and replying answer, and the book afterwards. Document 02, W-210: "17, retired,
--- comes after 3 and before 4, in writing and asking only."
-use Prim.Native.Nat.{ℕ, zero, suc, _+_, _%_}
-use mathlib.Core.Bool.{Bool, not}
-use mathlib.Core.List.{List}
-use lib.ListN.{getD, set, replicate}
-use Rattle.refusal.specs.Test.{pick}
+-- Document 01, "The book of unanswered requests": the book after asking, what replying answers, and the book afterwards.
+use Prim.Native.Nat.{ℕ}
+use lib.ListN.{set, replicate}
 use Rattle.refusal.specs.Answer.{Answer, refused, full, demand}
-use Rattle.command.specs.Command.{isKnown, isRetired}
-use Rattle.book.specs.declared.Book.{Book}
-use Rattle.book.specs.declared.Given.{Given}
-use Rattle.book.specs.declared.Given.the-variants.{Number, Refused as given·Refused}
+use Rattle.free_number.specs.declared.Book.{Book}
+use Rattle.free_number.specs.Number.{vacant, entry, holds}
 use Rattle.book.specs.declared.Freed.{Freed}
 use Rattle.book.specs.declared.Freed.the-variants.{Command, Refused as freed·Refused}
-
--- what stands for nothing held
-abbrev pub vacant : ℕ
-vacant = 0
-
--- "It holds, for each sequence number 0 to 255, nothing or the command asked."
-abbrev pub entry : List ℕ → ℕ → ℕ
-entry asked n = getD asked n vacant
-
--- "an entry that is no known command counts as nothing held": a number is free where nothing is held under it, else awaited
-abbrev pub holds : List ℕ → ℕ → Bool
-holds asked n = isKnown (entry asked n)
 
 -- "Fresh: nothing held, last number 255."
 abbrev pub freshBook : Book
 freshBook = record { asked = replicate 256 vacant; last = 255 }
-
--- "counting past 255 to 0"
-abbrev pub next : ℕ → ℕ
-next n = (n + 1) % 256
-
--- the first free one of the k numbers after n; "It refuses with 9 exactly if no number is free."
-unfoldable pub firstFree : List ℕ → ℕ → ℕ → Answer ℕ
-firstFree asked n zero = refused 9
-firstFree asked n (suc k) = let later = firstFree asked (next n) k in pick (holds asked (next n)) later (full (next n))
-
--- "Asking with a known command takes the first free number after the last one given, .. trying the last one itself at the end":
--- that is the 256th number after it. A command that is not known is 3, a retired one 17, whatever the book holds
-unfoldable pub numberFor : Book → ℕ → Answer ℕ
-numberFor b c =
-    demand (isKnown c) 3
-    (demand (not (isRetired c)) 17
-    (firstFree (b .asked) (b .last) 256))
 
 -- "it becomes the last"; a refusal changes nothing
 abbrev pub noted : Book → ℕ → Answer ℕ → Book
@@ -61,10 +26,6 @@ freed b n (refused k) = b
 freed b n (full c) = record { asked = set (b .asked) n vacant; last = b .last }
 
 -- document 01's number and values for each case of an answer
-abbrev pub saidGiven : Given → Answer ℕ
-saidGiven (given·Refused k) = refused k
-saidGiven (Number n) = full n
-
 abbrev pub saidFreed : Freed → Answer ℕ
 saidFreed (freed·Refused k) = refused k
 saidFreed (Command c) = full c

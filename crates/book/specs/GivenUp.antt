@@ -12,10 +12,10 @@ use Rattle.command.specs.Command.{isKnown}
 use Rattle.command.specs.Count.{countBelow}
 use Rattle.tick.specs.Age.{isOver}
 use Rattle.book.specs.declared.Timed.{Timed}
-use Rattle.book.specs.Book.{vacant, entry, holds}
+use Rattle.free_number.specs.Number.{vacant, entry, holds}
 use Rattle.book.specs.Ticks.{tickAt, isOld, those, struck, givenUp, countFreed}
 use Rattle.book.specs.Old.{those-most, struck-beyond}
-use Rattle.book.specs.Sound.{vacant-free, freed-entry}
+use Rattle.free_number.specs.Search.{vacant-free, freed-entry}
 
 -- the numbers of a test are as many as it holds of
 those-count : (test : ℕ → Bool) (k : ℕ) → length (those test k) ≡ countBelow test k

@@ -10,7 +10,7 @@ use native.Mathlib.Omega.{arith}
 use Rattle.refusal.specs.Test.{pick}
 use Rattle.command.specs.Command.{isKnown}
 use Rattle.tick.specs.Age.{isOver}
-use Rattle.book.specs.Book.{vacant, entry, holds}
+use Rattle.free_number.specs.Number.{vacant, entry, holds}
 use Rattle.book.specs.Ticks.{tickAt, isOld, those, struck}
 
 -- no more than were looked at

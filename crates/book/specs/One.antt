@@ -2,13 +2,14 @@
 use Prim.Native.Nat.{ℕ}
 use mathlib.Core.Path.{_≡_, sym, ap, _∙_}
 use mathlib.Core.List.{List}
-use Rattle.book.specs.declared.Book.{Book}
+use Rattle.free_number.specs.declared.Book.{Book}
 use Rattle.book.specs.declared.Timed.{Timed}
-use Rattle.book.specs.declared.Given.{Given}
-use Rattle.book.specs.declared.Given.the-variants.{Number, Refused as given·Refused}
+use Rattle.free_number.specs.declared.Given.{Given}
+use Rattle.free_number.specs.declared.Given.the-variants.{Number, Refused as given·Refused}
 use Rattle.book.specs.declared.Freed.{Freed}
 use Rattle.book.specs.declared.Freed.the-variants.{Command, Refused as freed·Refused}
-use Rattle.book.specs.Book.{saidGiven, saidFreed}
+use Rattle.free_number.specs.Number.{saidGiven}
+use Rattle.book.specs.Book.{saidFreed}
 use Rattle.book.specs.Ticks.{Asks, Replies, GivesUp}
 
 pub given-one : (x y : Given) → saidGiven x ≡ saidGiven y → x ≡ y

@@ -9,16 +9,14 @@ use lib.ListN.{getD, set, replicate, length}
 use Rattle.refusal.specs.Test.{pick}
 use Rattle.refusal.specs.Answer.{Answer, refused, full}
 use Rattle.tick.specs.Age.{isOver}
-use Rattle.book.specs.declared.Book.{Book}
+use Rattle.free_number.specs.declared.Book.{Book}
 use Rattle.book.specs.declared.Timed.{Timed}
-use Rattle.book.specs.declared.Given.{Given}
+use Rattle.free_number.specs.declared.Given.{Given}
 use Rattle.book.specs.declared.Freed.{Freed}
-use Rattle.book.specs.Book.{vacant, holds, freshBook, numberFor, noted, commandOf, freed, saidGiven, saidFreed}
+use Rattle.free_number.specs.Number.{vacant, holds, book, numberFor, saidGiven}
+use Rattle.book.specs.Book.{freshBook, noted, commandOf, freed, saidFreed}
 
 -- a book of its parts, as they are lent: the entries, the last number, the ticks
-abbrev pub book : List ℕ → ℕ → Book
-book asked last = record { asked = asked; last = last }
-
 abbrev pub timed : List ℕ → ℕ → List ℕ → Timed
 timed asked last ticks = record { book = book asked last; ticks = ticks }
 

@@ -1,31 +1,17 @@
 // The book of unanswered requests: which sequence numbers are awaited, the command asked under each, and the tick at which it was asked. A caller
-// keeps the book and lends what a call needs of it; what a call is not lent, it cannot change. It leans on crate command for which commands are known
-// and which are retired, and on crate tick for how old a request is.
+// keeps the book and lends what a call needs of it; what a call is not lent, it cannot change. It leans on crate free_number for the number of a
+// request, on crate command for which commands are known, and on crate tick for how old a request is. (Crate awaited: theorems of any run of its calls.)
 // Document 01, "The book of unanswered requests", with refusals 3, 9 and 10; document 02, W-210, with 17, and W-205.
 ghost use mathlib.Core.Path.{_≡_};
-ghost use Rattle.book.specs.Book.{firstFree, numberFor, saidGiven};
-ghost use Rattle.book.specs.Ticks.{book, timed, freshTimed, Asks, Replies, GivesUp};
-
-pub struct Book {
-    // The command asked under each sequence number. A number that is no known command counts as nothing held.
-    pub asked: [u8; 256],
-    // The last sequence number given.
-    pub last: u8,
-}
+ghost use Rattle.book.specs.Ticks.{timed, freshTimed, Asks, Replies, GivesUp};
+pub use free_number::Book;
+pub use free_number::Given;
+use free_number::VACANT;
 
 // A book with the tick at which each request was asked. Where nothing is held under a number, its tick says nothing.
 pub struct Timed {
     pub book: Book,
     pub ticks: [u32; 256],
-}
-
-// What stands for nothing held where this crate writes it.
-const VACANT: u8 = 0;
-
-// What asking answers: the sequence number for the request, or the number of its refusal.
-pub enum Given {
-    Number(u8),
-    Refused(u8),
 }
 
 // What a reply answers: the command asked under its sequence number, or the number of its refusal.
@@ -47,41 +33,6 @@ pub fn fresh() -> Timed
     }
 }
 
-// The first free number after the last one given, the last one itself at the end; 9 where there is none. It looks at no entry
-// past the free one.
-fn first_free(asked: &[u8; 256], last: u8) -> Given
-    ensures { λ r. ⌜ saidGiven r ≡ firstFree (now (asked .entry)) last 256 ⌝ }
-{
-    let mut n = last;
-    let mut left: usize = 256;
-    while left > 0 {
-        n = std::num::wrapping_add_u8(n, 1);
-        if !command::known(asked[n as usize]) {
-            return Given::Number(n);
-        }
-        left -= 1;
-    }
-    Given::Refused(9)
-}
-
-// The number for a request with this command. One that is not known is 3 and a retired one 17, also where no number is free.
-fn number_for(asked: &[u8; 256], last: u8, command: u8) -> Given
-    ensures { λ r. ⌜ saidGiven r ≡ numberFor (book (now (asked .entry)) last) command ⌝ }
-{
-    if !command::known(command) {
-        return Given::Refused(3);
-    }
-    if command::retired(command) {
-        return Given::Refused(17);
-    }
-    // Nearly always nothing stands under the next number: that is told without a search.
-    let next = std::num::wrapping_add_u8(last, 1);
-    if asked[next as usize] == VACANT {
-        return Given::Number(next);
-    }
-    first_free(asked, last)
-}
-
 // Asks with a command at a tick: the number given is awaited from then on, with that tick, and is the last. Where it is refused, with 3 for an
 // unknown command, 17 for a retired one or 9 where all numbers are awaited, the book is as it was, ticks too.
 pub fn ask(
@@ -93,7 +44,7 @@ pub fn ask(
 ) -> Given
     ensures { λ r. ⌜ Asks (timed (now (asked .entry)) (now (last .entry)) (now (ticks .entry))) command tick r (timed (now (asked .exit)) (now (last .exit)) (now (ticks .exit))) ⌝ }
 {
-    let answer = number_for(asked, *last, command);
+    let answer = free_number::number_for(asked, *last, command);
     match answer {
         Given::Refused(_) => answer,
         Given::Number(n) => {

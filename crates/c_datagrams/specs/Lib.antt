@@ -1,6 +1,5 @@
--- what the contracts cite
+-- what the contracts cite (and in crate c_requests)
 pub mod Written
-pub mod Requests
 pub mod Replies
 pub mod Events
 -- what is claimed of it

@@ -8,8 +8,8 @@ use Rattle.filter_plan.specs.declared.Went.the-variants.{Well, Bad}
 use Rattle.filter_plan.specs.declared.Left.{Left}
 use Rattle.filter_plan.specs.declared.Verdict.{Verdict}
 use Rattle.filter_plan.specs.declared.Verdict.the-variants.{Yes, Hidden, Bad as verdict·Bad}
-use Rattle.filter_plan.specs.declared.Since.{Since}
-use Rattle.filter_plan.specs.declared.Since.the-variants.{Request, Never}
+use Rattle.filter_since.specs.declared.Since.{Since}
+use Rattle.filter_since.specs.declared.Since.the-variants.{Request, Never}
 use Rattle.c_plan.specs.declared.WickPlan.{WickPlan}
 use Rattle.c_plan.specs.declared.WickPlanLeft.{WickPlanLeft}
 use Rattle.c_plan.specs.declared.WickSince.{WickSince}

@@ -1,12 +1,12 @@
 // The check of a filter plan as programs in C have it: the structs that crate wickanchor hands over, laid out as C does, and what turns the answers of
-// crate filter_plan into them. A filter is laid out so already. Each contract is an equation. Document 02, W-212.
+// crates filter_plan and filter_since into them. A filter is laid out so already. Each contract is an equation. Document 02, W-212.
 ghost use mathlib.Core.Path.{_≡_};
 ghost use Rattle.c_plan.specs.Plans.{verdictOut, leftOut, sinceOut};
 use filter_asked::Filter;
 use filter_plan::Left;
-use filter_plan::Since;
 use filter_plan::Verdict;
 use filter_plan::Went;
+use filter_since::Since;
 
 // What the check answers: 0 is yes, 1 a bad request, 2 a wanted event that is hidden; the refusal of the request; and the place of either.
 #[repr(C)]

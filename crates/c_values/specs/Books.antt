@@ -3,10 +3,11 @@ use Prim.Native.Nat.{ℕ}
 use mathlib.Core.Path.{_≡_, sym, ap, _∙_}
 use mathlib.Core.List.{List}
 use Rattle.refusal.specs.Answer.{Answer, refused, full}
-use Rattle.book.specs.declared.Book.{Book}
+use Rattle.free_number.specs.declared.Book.{Book}
 use Rattle.book.specs.declared.Timed.{Timed}
-use Rattle.book.specs.Book.{numberFor, commandOf, freed}
-use Rattle.book.specs.Ticks.{book, notedAt}
+use Rattle.free_number.specs.Number.{numberFor, book}
+use Rattle.book.specs.Book.{commandOf, freed}
+use Rattle.book.specs.Ticks.{notedAt}
 use Rattle.c_values.specs.declared.WickBook.{WickBook}
 use Rattle.c_values.specs.declared.WickBooked.{WickBooked}
 

@@ -3,11 +3,12 @@ use Prim.Native.Nat.{ℕ}
 use mathlib.Core.Path.{_≡_, ap, _∙_}
 use mathlib.Core.List.{List}
 use Rattle.book.specs.declared.Timed.{Timed}
-use Rattle.book.specs.declared.Given.{Given}
+use Rattle.free_number.specs.declared.Given.{Given}
 use Rattle.book.specs.declared.Freed.{Freed}
-use Rattle.book.specs.Book.{saidGiven, saidFreed}
+use Rattle.free_number.specs.Number.{saidGiven}
+use Rattle.book.specs.Book.{saidFreed}
 use Rattle.book.specs.Ticks.{Asks, Replies}
-use Rattle.line.specs.declared.Line.{Line}
+use Rattle.extent.specs.declared.Line.{Line}
 use Rattle.reader.specs.declared.Held.{Held}
 use Rattle.reader.specs.declared.Given.{Given as Item}
 use Rattle.reader.specs.Reader.{givenOf, closedOf, Feeds, Closes}

@@ -4,8 +4,8 @@ use mathlib.Core.List.{List}
 use lib.Dec.{eqb}
 use Rattle.refusal.specs.Test.{pick}
 use Rattle.stream.specs.Stream.{Position, nothing, stands, feed, close}
-use Rattle.line.specs.declared.Line.{Line}
-use Rattle.line.specs.declared.Line.the-variants.{Request, Reply}
+use Rattle.extent.specs.declared.Line.{Line}
+use Rattle.extent.specs.declared.Line.the-variants.{Request, Reply}
 use Rattle.line.specs.Rule.{settle}
 use Rattle.reader.specs.declared.Held.{Held}
 use Rattle.reader.specs.declared.Given.{Given}

@@ -18,7 +18,7 @@ use Rattle.event.specs.declared.Layout.{Layout}
 use Rattle.event.specs.Layout.{widthOf}
 use Rattle.event.specs.Reading.{Told, readEvent}
 use Rattle.stream.specs.Stream.{Item, reading, itemsUpTo, items}
-use Rattle.line.specs.declared.Line.the-variants.{Request as OnRequest, Reply as OnReply}
+use Rattle.extent.specs.declared.Line.the-variants.{Request as OnRequest, Reply as OnReply}
 use Rattle.line.specs.Rule.{settle}
 use Rattle.text.specs.Text.{decimalIn}
 use Rattle.printed.specs.Text.{hexes, textOf}

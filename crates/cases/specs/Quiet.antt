@@ -13,7 +13,7 @@ use Rattle.ranges.specs.Arguments.{fits}
 use Rattle.request.specs.Layout.{basic, unicast, colour}
 use Rattle.request.specs.Writing.{writerOf}
 use Rattle.stream.specs.Stream.{itemsUpTo, items}
-use Rattle.line.specs.declared.Line.the-variants.{Request}
+use Rattle.extent.specs.declared.Line.the-variants.{Request}
 use Rattle.line.specs.Rule.{settle}
 use Rattle.quiet_run.specs.Quiet.{allQuiet, quietRun, none, loud, firstLoud}
 use Rattle.cases.specs.Retired.{groups, sceneList, withArgument, wrongSum}

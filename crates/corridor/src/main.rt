@@ -3,7 +3,6 @@
 // sheet_told put: what any program reports that goes so is `run-reports` of by_parts' specs/Run. Its memory does not grow with the capture.
 ghost use Prim.Native.Nat.{_≤_};
 use asked::Address;
-use asked::Asked;
 use asked::Boundary;
 use asked::Number;
 use by_parts::How;
@@ -12,6 +11,7 @@ use event::Mac;
 use libc::STDERR_FILENO;
 use libc::STDIN_FILENO;
 use libc::STDOUT_FILENO;
+use options::Asked;
 use season::Boundaries;
 use season::Corridor;
 use season::Season;
@@ -294,7 +294,7 @@ fn open(form: Form, i: usize, who: Corridor, bounds: Boundaries) {
     let mut word = [0u8; WORD];
     let n = os::arg(i, &mut word);
     let path = &word[..n];
-    if asked::is_input(path) {
+    if options::is_input(path) {
         report(form, STDIN_FILENO, path, who, bounds);
         return;
     }
@@ -394,7 +394,7 @@ fn main() {
     }
     let mut word = [0u8; WORD];
     let n = os::arg(1, &mut word);
-    let first = asked::option_of(&word[..n]);
+    let first = options::option_of(&word[..n]);
     match first {
         Asked::Help => help(),
         Asked::Text => go(Form::Text, 2),

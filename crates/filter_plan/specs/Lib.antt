@@ -2,13 +2,7 @@
 pub mod Filters
 pub mod Plan
 pub mod Table
--- what is claimed of it
-pub mod Kept
-pub mod Hidden
-pub mod Answers
-pub mod Since
-pub mod Slip
--- what only serves proofs
+-- what only serves proofs (what is claimed: crate filter_answers)
 pub mod Places
 pub mod Tables
 pub mod Dropped

@@ -2,7 +2,7 @@
 -- else the first wanted event hidden. Refusals: 1 to 7 for a plan's request, 18 for a command other than 31 or 33, 19 for a 65th entry, in that
 -- order." Requests and wanted events are counted from 0.
 use Prim.Native.Nat.{ℕ, zero, suc, _+_, _*_, _/_}
-use mathlib.Core.Bool.{Bool, _&&_}
+use mathlib.Core.Bool.{Bool}
 use mathlib.Core.List.{List, []}
 use lib.Dec.{ltb}
 use lib.ListN.{length, take, drop, getD}
@@ -10,14 +10,12 @@ use Rattle.refusal.specs.Test.{pick, flag}
 use Rattle.refusal.specs.Answer.{Answer, refused, full}
 use Rattle.maps.specs.Bit.{lowest}
 use Rattle.filter_asked.specs.declared.Filter.{Filter}
-use Rattle.filter_asked.specs.Asked.{Change, add, clear, asked, isNamed}
+use Rattle.filter_asked.specs.Asked.{Change, asked}
 use Rattle.filter_plan.specs.declared.Went.{Went}
 use Rattle.filter_plan.specs.declared.Went.the-variants.{Well, Bad}
 use Rattle.filter_plan.specs.declared.Verdict.{Verdict}
 use Rattle.filter_plan.specs.declared.Verdict.the-variants.{Yes, Hidden, Bad as verdict·Bad}
-use Rattle.filter_plan.specs.declared.Since.{Since}
-use Rattle.filter_plan.specs.declared.Since.the-variants.{Request, Never}
-use Rattle.filter_plan.specs.Filters.{next, isOf, isHidden}
+use Rattle.filter_plan.specs.Filters.{next, isHidden}
 
 -- request k, and how many there are
 abbrev pub requestAt : List ℕ → ℕ → List ℕ
@@ -76,25 +74,3 @@ verdict (run l (Bad k n)) w = verdict·Bad k n
 
 unfoldable pub checked : List ℕ → List ℕ → Verdict
 checked p w = verdict (leftOf p) w
-
--- beside the document, for good plans: since which request an event is hidden. It is hidden by one that adds its type to its address and instance, until one clears it
--- there; further ones that add it change nothing
-abbrev pub concerns : ℕ → ℕ → ℕ → Filter → Bool
-concerns a i t f = isOf a i f && isNamed (f .mask) t
-
-abbrev pub orSince : Since → ℕ → Since
-orSince Never k = Request k
-orSince (Request j) k = Request j
-
-abbrev pub traced : ℕ → ℕ → ℕ → ℕ → Answer Change → Since → Since
-traced a i t k (refused n) s = s
-traced a i t k (full (add f)) s = pick (concerns a i t f) (orSince s k) s
-traced a i t k (full (clear f)) s = pick (concerns a i t f) Never s
-
--- after the first k requests, and after all of them
-unfoldable pub sinceBy : List ℕ → ℕ → ℕ → ℕ → ℕ → Since
-sinceBy p a i t zero = Never
-sinceBy p a i t (suc k) = traced a i t k (asked (requestAt p k)) (sinceBy p a i t k)
-
-abbrev pub sinceOf : List ℕ → ℕ → ℕ → ℕ → Since
-sinceOf p a i t = sinceBy p a i t (requests p)

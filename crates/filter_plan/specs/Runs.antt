@@ -4,7 +4,7 @@ use mathlib.Core.Path.{_≡_, refl, sym, ap, _∙_}
 use mathlib.Core.Bool.{true, false}
 use mathlib.Core.List.{List, [], _∷_}
 use lib.Dec.{leb}
-use lib.ListN.{length, take, drop, length-drop, length-take}
+use lib.ListN.{length, take, drop, length-drop}
 use lib.Seq.{take-all}
 use borrow.Author.Tests.{leb-true, lt-ltb, le-ltb}
 use native.Mathlib.Decide.{ℕ-discrete}
@@ -18,12 +18,10 @@ use Rattle.filter_plan.specs.declared.Filters.{Filters}
 use Rattle.filter_plan.specs.declared.Left.{Left}
 use Rattle.filter_plan.specs.declared.Went.the-variants.{Well, Bad}
 use Rattle.filter_plan.specs.declared.Verdict.the-variants.{Yes, Hidden, Bad as verdict·Bad}
-use Rattle.filter_plan.specs.declared.Since.{Since}
-use Rattle.filter_plan.specs.declared.Since.the-variants.{Never}
 use Rattle.filter_plan.specs.declared.Step.the-variants.{Good, Refused}
 use Rattle.filter_plan.specs.declared.Stepped.{Stepped}
 use Rattle.filter_plan.specs.Filters.{changed, next}
-use Rattle.filter_plan.specs.Plan.{requestAt, requests, Run, run, filtersIn, wentIn, judged, stepOf, onward, after, verdict, leftOf, wants, hiddenAt, firstHidden, traced, sinceBy, sinceOf}
+use Rattle.filter_plan.specs.Plan.{requestAt, requests, Run, run, filtersIn, wentIn, judged, stepOf, onward, after, verdict, leftOf, wants, hiddenAt, firstHidden}
 use Rattle.filter_plan.specs.Table.{tableOf, leftBy, listOf, IsTable, stepped}
 use Rattle.filter_plan.specs.Tables.{list-back, table-is}
 
@@ -112,17 +110,6 @@ part-whole p at =
     let e : at + 8 - at ≡ 8 = omega arith in
     ap (λ (n : ℕ). take n (drop at p)) e
 
--- the bytes of a request by its place
-pub part-none : (p : List ℕ) (k : ℕ) → length p / 8 < k → take (length p - length p) (drop (length p) p) ≡ requestAt p k
-part-none p k h =
-    let z : length p - length p ≡ 0 = omega arith in
-    let n = length-drop (8 * k) p in
-    rw z (sym (none (take 8 (drop (8 * k) p)) (omega (arith, length-take 8 (drop (8 * k) p)))))
-  where
-    none : (s : List ℕ) → length s ≡ 0 → s ≡ []
-    none [] e = refl
-    none (b ∷ s) e = absurd (omega arith)
-
 -- the turn of the loop, good and bad, and its end
 abbrev pub Stands : List ℕ → ℕ → Filters → Type 0
 Stands p at t = IsTable t × (at % 8 ≡ 0) × (at ≤ length p + 7) × (after p (at / 8) ≡ run (listOf t) Well)
@@ -186,23 +173,3 @@ module _ (l : List Filter) (w : List ℕ) where
   none-hidden z =
       let x : lowest (λ k. flag (hiddenAt l w k)) (wants w) ≡ wants w = lowest-none (wants w) (λ k. flag (hiddenAt l w k)) (λ k g. ap flag (z k g)) in
       rw (x, le-ltb (wants w) (wants w) (omega arith))
-
--- since which request an event is hidden, request by request
-module _ (p : List ℕ) (a i t : ℕ) where
-  abbrev pub Traced : ℕ → Since → Type 0
-  Traced at s = (at % 8 ≡ 0) × (at ≤ length p + 7) × (s ≡ sinceBy p a i t (at / 8))
-
-  pub traced-first : Traced 0 Never
-  unfolding sinceBy
-  traced-first = (refl, omega arith, refl)
-
-  pub traced-on : (at : ℕ) (s r : Since) (v : Answer Change) → Traced at s → at < length p → v ≡ asked (take 8 (drop at p)) → r ≡ traced a i t (at / 8) v s → Traced (at + 8) r
-  unfolding sinceBy
-  traced-on at s r v is h w e =
-      let q : (at + 8) / 8 ≡ suc (at / 8) = omega arith in
-      (omega (arith, is .0), omega arith, rw (q) (e ∙ rw (w, request-at p at (is .0), is .2)))
-
-  pub traced-end : (at : ℕ) (s : Since) → Traced at s → length p ≤ at → s ≡ sinceOf p a i t
-  traced-end at s is h =
-      let q : at / 8 ≡ requests p = omega (arith, is .0, is .1) in
-      is .2 ∙ ap (sinceBy p a i t) q

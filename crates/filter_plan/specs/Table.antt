@@ -1,19 +1,17 @@
 -- The filters as the code has them: 64 places, of which the first hold them and the others hold none.
-use Prim.Native.Nat.{ℕ, zero, suc, _+_, _-_, _*_, _≤_}
+use Prim.Native.Nat.{ℕ, zero, suc, _-_, _≤_}
 use mathlib.Core.Path.{_≡_}
 use mathlib.Core.List.{List, [], _∷_, _++_}
-use lib.Dec.{leb}
-use lib.ListN.{length, take, getD, replicate}
+use lib.ListN.{length, take, replicate}
 use Rattle.refusal.specs.Test.{pick}
 use Rattle.refusal.specs.Answer.{Answer, refused, full}
 use Rattle.filter_asked.specs.declared.Filter.{Filter}
-use Rattle.filter_plan.specs.declared.Event.{Event}
 use Rattle.filter_plan.specs.declared.Filters.{Filters}
 use Rattle.filter_plan.specs.declared.Left.{Left}
 use Rattle.filter_plan.specs.declared.Step.the-variants.{Good, Refused}
 use Rattle.filter_plan.specs.declared.Stepped.{Stepped}
 use Rattle.filter_plan.specs.Filters.{isOf}
-use Rattle.filter_plan.specs.Plan.{Run, run, wants}
+use Rattle.filter_plan.specs.Plan.{Run, run}
 
 abbrev pub none : Filter
 none = record { address = 0; instance = 0; mask = 0 }
@@ -23,16 +21,6 @@ tableOf l = record { entries = l ++ replicate (64 - length l) none; count = leng
 
 abbrev pub leftBy : Run → Left
 leftBy (run l w) = record { went = w; filters = tableOf l }
-
--- where request k begins; the plan's end where that is before
-abbrev pub requestStart : List ℕ → ℕ → ℕ
-requestStart p k = pick (leb (8 * k) (length p)) (8 * k) (length p)
-
--- wanted event j; zeros behind the last
-abbrev pub eventAt : List ℕ → ℕ → Event
-eventAt w j =
-    pick (leb (wants w) j) (record { address = 0; instance = 0; kind = 0 })
-    (record { address = getD w (3 * j) 0; instance = getD w (3 * j + 1) 0; kind = getD w (3 * j + 2) 0 })
 
 -- what the functions inside keep: such a table is of its own list
 abbrev pub listOf : Filters → List Filter

@@ -1,14 +1,14 @@
-// A contractor's filter plan, checked before it goes to a controller: the filters that it leaves, whether they hide an event that is wanted, and
-// since which request one is hidden. It leans on crate filter_asked for what each request asks. Document 02, W-212, with refusals 1 to 7, 18 and 19.
-ghost use Prim.Native.Nat.{_+_, _*_, _≤_, _<_};
+// A contractor's filter plan, checked before it goes to a controller: the filters that it leaves, and whether they hide an event that is wanted
+// (crate filter_since: since which request; crate filter_answers: theorems). It leans on crate filter_asked for what each request asks. Document 02, W-212, with
+// refusals 1 to 7, 18 and 19.
+ghost use Prim.Native.Nat.{_≤_, _<_};
 ghost use mathlib.Core.Path.{_≡_};
 ghost use mathlib.Core.List.{[]};
 ghost use lib.ListN.{length, take, drop};
-ghost use denote.Ref.{ptr};
 ghost use Rattle.filter_asked.specs.Asked.{add as adding, saidAsked, asked};
 ghost use Rattle.filter_plan.specs.Filters.{cleared, next as nextOf, isHidden};
-ghost use Rattle.filter_plan.specs.Plan.{requestAt, leftOf, stepOf, checked, firstHidden, concerns as concerned, traced, sinceOf};
-ghost use Rattle.filter_plan.specs.Table.{requestStart, eventAt, tableOf, leftBy, listOf, IsTable, placeOf, dropped, stepped};
+ghost use Rattle.filter_plan.specs.Plan.{leftOf, stepOf, checked, firstHidden};
+ghost use Rattle.filter_plan.specs.Table.{tableOf, leftBy, listOf, IsTable, placeOf, dropped, stepped};
 use filter_asked::Asked;
 use filter_asked::Filter;
 
@@ -16,7 +16,7 @@ use filter_asked::Filter;
 pub const MOST: usize = 64;
 
 // "The plan is cut every 8 bytes".
-const REQUEST: usize = command::BASIC_BYTES;
+pub const REQUEST: usize = command::BASIC_BYTES;
 
 // "three bytes each": address, instance and event type.
 pub const EVENT: usize = 3;
@@ -51,19 +51,6 @@ pub enum Verdict {
     Yes,
     Bad { request: usize, number: u8 },
     Hidden(usize),
-}
-
-// The first request from which on an event is hidden to the end of a plan, or that it is not.
-pub enum Since {
-    Request(usize),
-    Never,
-}
-
-// A wanted event.
-pub struct Event {
-    pub address: u8,
-    pub instance: u8,
-    pub kind: u8,
 }
 
 // What one request makes of the filters: whether it is good.
@@ -282,86 +269,5 @@ pub fn check(plan: &[u8], wanted: &[u8]) -> Verdict
             let filters = left.filters;
             first_hidden(filters, wanted)
         }
-    }
-}
-
-// Whether a filter names a type of an address and an instance.
-fn concerns(f: Filter, address: u8, instance: u8, kind: u8) -> bool
-    ensures { λ r. ⌜ r ≡ concerned address instance kind f ⌝ }
-{
-    (f.address == address) & (f.instance == instance) & filter_asked::names(f.mask, kind)
-}
-
-// Since which request an event is hidden, after one request more.
-fn trace(s: Since, k: usize, a: Asked, address: u8, instance: u8, kind: u8) -> Since
-    ensures { λ r. ⌜ r ≡ traced address instance kind k (saidAsked a) s ⌝ }
-{
-    match a {
-        Asked::Refused(_) => s,
-        Asked::Clear(f) => {
-            if concerns(f, address, instance, kind) {
-                return Since::Never;
-            }
-            s
-        }
-        Asked::Add(f) => {
-            if !concerns(f, address, instance, kind) {
-                return s;
-            }
-            match s {
-                Since::Never => Since::Request(k),
-                Since::Request(j) => Since::Request(j),
-            }
-        }
-    }
-}
-
-// Since which request of a plan an event is hidden to its end. It is asked of good plans: requests that are refused with 1 to 7 or 18 are passed over,
-// and whether there is room for a filter is not judged.
-pub fn hidden_since(plan: &[u8], address: u8, instance: u8, kind: u8) -> Since
-    ensures { λ r. ⌜ r ≡ sinceOf (now (plan .entry)) address instance kind ⌝ }
-{
-    let mut s = Since::Never;
-    let mut at: usize = 0;
-    while at < plan.len() {
-        s = trace(s, at / REQUEST, asked_at(plan, at), address, instance, kind);
-        at += REQUEST;
-    }
-    s
-}
-
-// The bytes of a request of a plan, by its place: fewer than 8 where the plan ends inside it, none, at its end, behind that. They are a part of the plan.
-pub fn request_at(plan: &[u8], k: usize) -> &[u8]
-    ensures { λ r. ⌜ (now r ≡ requestAt (now (plan .entry)) k)
-        × (ptr r .0 ≡ ptr (plan .entry) .0)
-        × (ptr r .1 ≡ requestStart (now (plan .entry)) k + ptr (plan .entry) .1) ⌝ }
-{
-    let n = plan.len();
-    if n / REQUEST < k {
-        return &plan[n..];
-    }
-    let at = REQUEST * k;
-    if n - at < REQUEST {
-        return &plan[at..];
-    }
-    &plan[at..at + REQUEST]
-}
-
-// A wanted event, by its place; behind the last, zeros.
-pub fn event_at(wanted: &[u8], j: usize) -> Event
-    ensures { λ r. ⌜ r ≡ eventAt (now (wanted .entry)) j ⌝ }
-{
-    if wanted.len() / EVENT <= j {
-        return Event {
-            address: 0,
-            instance: 0,
-            kind: 0,
-        };
-    }
-    let at = EVENT * j;
-    Event {
-        address: wanted[at],
-        instance: wanted[at + 1],
-        kind: wanted[at + 2],
     }
 }

@@ -7,8 +7,8 @@ use lib.ListN.{length, take, drop}
 use lib.Dec.{leb}
 use Rattle.refusal.specs.Test.{pick}
 use Rattle.stream.specs.Stream.{Item, reading, Position, nothing, stands, countsOf}
-use Rattle.line.specs.declared.Line.{Line}
-use Rattle.line.specs.Line.{capOf}
+use Rattle.extent.specs.declared.Line.{Line}
+use Rattle.extent.specs.Line.{capOf}
 use Rattle.line.specs.Rule.{itemAt}
 use Rattle.printed.specs.Text.{lineOf, textOf}
 use Rattle.items.specs.declared.Poured.{Poured}

@@ -12,7 +12,7 @@ use native.Mathlib.Omega.{arith}
 use Rattle.refusal.specs.Test.{clash}
 use Rattle.stream.specs.Stream.{Item, reading, Position, nothing, stands, items, countsOf}
 use Rattle.stream.specs.Items.{behind}
-use Rattle.line.specs.declared.Line.{Line}
+use Rattle.extent.specs.declared.Line.{Line}
 use Rattle.line.specs.Rule.{itemAt, settle}
 use Rattle.line.specs.Says.{nothing-at, stands-at, items-end, items-at}
 use Rattle.printed.specs.Text.{lineOf, textOf}

@@ -11,7 +11,7 @@ use native.Mathlib.Omega.{arith}
 use Rattle.lent.specs.Puts.{fits, over, Puts}
 use Rattle.lent.specs.Over.{puts-room}
 use Rattle.stream.specs.Stream.{Item, reading, nothing, stands, countsOf}
-use Rattle.line.specs.declared.Line.{Line}
+use Rattle.extent.specs.declared.Line.{Line}
 use Rattle.line.specs.Rule.{itemAt}
 use Rattle.line.specs.Says.{none-at, stands-at}
 use Rattle.printed.specs.Text.{lineOf, textOf}

@@ -9,7 +9,7 @@ use native.Mathlib.Omega.{arith}
 use Rattle.refusal.specs.Test.{clash}
 use Rattle.stream.specs.Stream.{reading, Position, nothing, stands, atClose, Settling, More, Settled, position, itemNumber, itemSize, items}
 use Rattle.stream.specs.Items.{behind, items-front, items-next}
-use Rattle.line.specs.declared.Line.{Line}
+use Rattle.extent.specs.declared.Line.{Line}
 use Rattle.line.specs.Rule.{itemAt, settle}
 use Rattle.line.specs.Laws.{lawful}
 use Rattle.line.specs.Says.{item-at, none-at, stands-at}

@@ -11,9 +11,9 @@ use Rattle.refusal.specs.Test.{clash}
 use Rattle.text.specs.Digits.{two-most}
 use Rattle.stream.specs.Stream.{reading, nothing, stands, Settling, More, Settled, itemNumber}
 use Rattle.stream.specs.Lawful.{size-most}
-use Rattle.line.specs.declared.Line.{Line}
-use Rattle.line.specs.declared.Line.the-variants.{Request, Reply}
-use Rattle.line.specs.Line.{capOf}
+use Rattle.extent.specs.declared.Line.{Line}
+use Rattle.extent.specs.declared.Line.the-variants.{Request, Reply}
+use Rattle.extent.specs.Line.{capOf}
 use Rattle.line.specs.Rule.{itemAt, settle}
 use Rattle.line.specs.Laws.{lawful, waits-few}
 use Rattle.line.specs.Numbers.{occurs, occursAt, numbers}

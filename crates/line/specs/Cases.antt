@@ -1,42 +1,20 @@
 -- The rule of a line, case by case: what it says of the bytes at a position, and what is known of them where it does.
-use Prim.Native.Nat.{ℕ, _+_, _≤_, _<_}
+use Prim.Native.Nat.{ℕ, _≤_, _<_}
 use mathlib.Core.Path.{_≡_, refl, sym, _∙_}
 use mathlib.Core.Bool.{Bool, true, false}
 use mathlib.Core.List.{List}
 use lib.ListN.{length, take}
 use lib.Dec.{leb, eqb}
-use borrow.Author.Tests.{leb-true, leb-false, le-leb, lt-leb, lt-ltb}
+use borrow.Author.Tests.{leb-true, leb-false, le-leb, lt-leb}
 use Rattle.refusal.specs.Test.{pick}
 use Rattle.sum.specs.Sum.{sumOf}
 use Rattle.frame.specs.Frame.{byte}
-use Rattle.command.specs.declared.Shape.{Shape}
-use Rattle.command.specs.declared.Shape.the-variants.{Colour}
-use Rattle.command.specs.Colours.{dataBytes}
-use Rattle.command.specs.Command.{shapeOf}
-use Rattle.command.specs.Length.{lengthOf}
 use Rattle.stream.specs.Stream.{Settling, More, Settled}
-use Rattle.line.specs.declared.Line.{Line}
-use Rattle.line.specs.declared.Extent.{Extent}
-use Rattle.line.specs.declared.Extent.the-variants.{Wait, Bad, Frame}
-use Rattle.line.specs.Line.{isLead, lengthExtent, requestExtent, extentOf, inTable}
+use Rattle.extent.specs.declared.Line.{Line}
+use Rattle.extent.specs.declared.Extent.{Extent}
+use Rattle.extent.specs.declared.Extent.the-variants.{Wait, Bad, Frame}
+use Rattle.extent.specs.Line.{isLead, extentOf, inTable}
 use Rattle.line.specs.Rule.{frameItem, extentItem, settle}
-use Rattle.line.specs.Extents.{up-to}
-
--- the length of a request, by its command's shape
-pub shape-extent : (s : List ℕ) (x : Shape) (r : Extent) → 3 ≤ length s → x ≡ shapeOf (byte 2 s) → r ≡ lengthExtent (lengthOf x) s
-    → r ≡ requestExtent s
-shape-extent s x r h e q = q ∙ rw e (sym (up-to 3 s h))
-
--- that of a colour request, by the bytes that its type has
-pub colour-short : (s : List ℕ) → length s < 6 → Wait ≡ lengthExtent (lengthOf Colour) s
-colour-short s h = rw (lt-leb 6 (length s) h)
-
-pub colour-odd : (s : List ℕ) (n : ℕ) → 6 ≤ length s → n ≡ dataBytes (byte 5 s) → n ≡ 0 → Bad 4 6 ≡ lengthExtent (lengthOf Colour) s
-colour-odd s n h e z = rw (le-leb 6 (length s) h, ← e, z)
-
-pub colour-framed : (s : List ℕ) (n : ℕ) → 6 ≤ length s → n ≡ dataBytes (byte 5 s) → 0 < n
-    → Frame (6 + n + 1) ≡ lengthExtent (lengthOf Colour) s
-colour-framed s n h e l = rw (le-leb 6 (length s) h, ← e, lt-ltb 0 n l)
 
 -- a byte of noise, and a lead
 pub settle-noise : (on : Line) (s : List ℕ) → 1 ≤ length s → isLead on (byte 0 s) ≡ false → settle on s ≡ Settled 2 1 1

@@ -15,12 +15,13 @@ use Rattle.command.specs.Known.{colour-shape}
 use Rattle.command.specs.Colours.{isType}
 use Rattle.command.specs.Length.{lengthOf, colourBytes}
 use Rattle.stream.specs.Stream.{More, Settled}
-use Rattle.line.specs.declared.Line.the-variants.{Request}
-use Rattle.line.specs.declared.Extent.{Extent}
-use Rattle.line.specs.declared.Extent.the-variants.{Wait, Bad, Frame}
-use Rattle.line.specs.Line.{lengthExtent}
+use Rattle.extent.specs.declared.Line.the-variants.{Request}
+use Rattle.extent.specs.declared.Extent.{Extent}
+use Rattle.extent.specs.declared.Extent.the-variants.{Wait, Bad, Frame}
+use Rattle.extent.specs.Line.{lengthExtent}
 use Rattle.line.specs.Rule.{extentItem, settle}
-use Rattle.line.specs.Cases.{settle-lead, shape-extent, colour-short, judged, framed-there}
+use Rattle.extent.specs.Shapes.{shape-extent, colour-short}
+use Rattle.line.specs.Cases.{settle-lead, judged, framed-there}
 
 module _ (s : List ℕ) (lead : byte 0 s ≡ 0x04) (command : byte 2 s ≡ 0x0E) where
   -- what the bytes tell is told by the type

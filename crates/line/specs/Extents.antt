@@ -15,11 +15,12 @@ use Rattle.command.specs.declared.Shape.the-variants.{Unknown, Basic, Unicast, 
 use Rattle.command.specs.Command.{shapeOf}
 use Rattle.command.specs.Length.{Told, unknown, fixed, tested, lengthOf, Within, length-within}
 use Rattle.stream.specs.Begins.{Begins, begins-at}
-use Rattle.line.specs.declared.Line.{Line}
-use Rattle.line.specs.declared.Line.the-variants.{Request, Reply}
-use Rattle.line.specs.declared.Extent.{Extent}
-use Rattle.line.specs.declared.Extent.the-variants.{Wait, Bad, Frame}
-use Rattle.line.specs.Line.{upTo, replyLength, lengthExtent, extentOf, capOf, leastOf, longestOf}
+use Rattle.extent.specs.declared.Line.{Line}
+use Rattle.extent.specs.declared.Line.the-variants.{Request, Reply}
+use Rattle.extent.specs.declared.Extent.{Extent}
+use Rattle.extent.specs.declared.Extent.the-variants.{Wait, Bad, Frame}
+use Rattle.extent.specs.Shapes.{up-to}
+use Rattle.extent.specs.Line.{replyLength, lengthExtent, extentOf, capOf, leastOf, longestOf}
 
 -- the items that a frame's length can give
 abbrev pub lengthItem : Line → ℕ → Bool
@@ -33,10 +34,6 @@ pub data Tells (on : Line) (s : List ℕ) : Extent → Type 0 where
   bad : (k d : ℕ) → lengthItem on k ≡ true → 1 ≤ d → d ≤ length s → ((t : List ℕ) → Begins d s t → extentOf on t ≡ Bad k d)
       → Tells on s (Bad k d)
   frame : (n : ℕ) → leastOf on ≤ n → n ≤ suc (capOf on) → ((t : List ℕ) → Begins n s t → extentOf on t ≡ Frame n) → Tells on s (Frame n)
-
--- where enough bytes are there
-pub up-to : (n : ℕ) (s : List ℕ) {x : Extent} → n ≤ length s → upTo n s x ≡ x
-up-to n s h = simp (le-leb n (length s) h)
 
 -- the bounds of a line's frames
 bounds : (on : Line) → (3 ≤ leastOf on) × (leastOf on ≤ longestOf on) × (longestOf on ≡ suc (capOf on))

@@ -10,8 +10,8 @@ use Rattle.refusal.specs.Test.{clash}
 use Rattle.stream.specs.Stream.{Settling, Settled}
 use Rattle.stream.specs.Stream.{Item, reading, itemNumber, itemSize, items}
 use Rattle.stream.specs.Items.{behind, items-none, items-settled, items-front}
-use Rattle.line.specs.declared.Line.{Line}
-use Rattle.line.specs.Line.{isLead}
+use Rattle.extent.specs.declared.Line.{Line}
+use Rattle.extent.specs.Line.{isLead}
 use Rattle.line.specs.Rule.{settle}
 use Rattle.line.specs.Cases.{settle-noise, Shows, none, noise, short, odd, part, bad-sum, outside, good, shows}
 use Rattle.line.specs.Laws.{lawful}

@@ -12,10 +12,10 @@ use Rattle.refusal.specs.Test.{clash}
 use Rattle.stream.specs.Stream.{Settling, Settled}
 use Rattle.stream.specs.Lawful.{not-more}
 use Rattle.stream.specs.Begins.{begins-at, begins-front}
-use Rattle.line.specs.declared.Line.{Line}
-use Rattle.line.specs.declared.Line.the-variants.{Request, Reply}
-use Rattle.line.specs.declared.Extent.the-variants.{Bad, Frame}
-use Rattle.line.specs.Line.{isLead}
+use Rattle.extent.specs.declared.Line.{Line}
+use Rattle.extent.specs.declared.Line.the-variants.{Request, Reply}
+use Rattle.extent.specs.declared.Extent.the-variants.{Bad, Frame}
+use Rattle.extent.specs.Line.{isLead}
 use Rattle.line.specs.Rule.{settle}
 use Rattle.line.specs.Extents.{Tells, bad, frame, lengthItem}
 use Rattle.line.specs.Cases.{settle-lead, framed-there, judged, Leads}

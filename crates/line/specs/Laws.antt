@@ -11,11 +11,11 @@ use Rattle.command.specs.Colours.{widthsOf, dataBytes}
 use Rattle.stream.specs.Stream.{Settling, More, Settled}
 use Rattle.stream.specs.Lawful.{Lawful, by-most, in-window as stream·in-window}
 use Rattle.stream.specs.Begins.{Begins, begins-at, Settles, waits, item, lawful-by, waits-by}
-use Rattle.line.specs.declared.Line.{Line}
-use Rattle.line.specs.declared.Line.the-variants.{Request, Reply}
-use Rattle.line.specs.declared.Extent.{Extent}
-use Rattle.line.specs.declared.Extent.the-variants.{Wait, Bad, Frame}
-use Rattle.line.specs.Line.{isLead, extentOf, capOf, leastOf}
+use Rattle.extent.specs.declared.Line.{Line}
+use Rattle.extent.specs.declared.Line.the-variants.{Request, Reply}
+use Rattle.extent.specs.declared.Extent.{Extent}
+use Rattle.extent.specs.declared.Extent.the-variants.{Wait, Bad, Frame}
+use Rattle.extent.specs.Line.{isLead, extentOf, capOf, leastOf}
 use Rattle.line.specs.Rule.{extentItem, settle}
 use Rattle.line.specs.Extents.{Tells, waits as tells·waits, bad, frame, extent-tells}
 use Rattle.line.specs.Cases.{settle-noise, settle-lead, judged, framed-there, Leads}

@@ -1,5 +1,4 @@
--- what the contracts cite: the lines, document 01's rule and the same with the count, and what the code's answer says (to be believed)
-pub mod Line
+-- what the contracts cite: document 01's rule and the same with the count, and what the code's answer says (to be believed; the lines: crate extent)
 pub mod Rule
 pub mod Said
 -- what is claimed of it: the answer is one, the rules agree and are lawful, which numbers occur, what is found (to be read)

@@ -7,9 +7,9 @@ use lib.Dec.{eqb}
 use borrow.Author.Tests.{eqb-true}
 use Rattle.refusal.specs.Test.{clash}
 use Rattle.stream.specs.Stream.{Settling, More, Settled}
-use Rattle.line.specs.declared.Line.{Line}
-use Rattle.line.specs.declared.Line.the-variants.{Request, Reply}
-use Rattle.line.specs.declared.Extent.the-variants.{Bad}
+use Rattle.extent.specs.declared.Line.{Line}
+use Rattle.extent.specs.declared.Line.the-variants.{Request, Reply}
+use Rattle.extent.specs.declared.Extent.the-variants.{Bad}
 use Rattle.line.specs.Rule.{settle}
 use Rattle.line.specs.Extents.{Tells, bad, lengthItem}
 use Rattle.line.specs.Cases.{Shows, none, noise, short, odd, part, bad-sum, outside, good, shows}

@@ -11,11 +11,11 @@ use Rattle.frame.specs.Frame.{byte}
 use Rattle.command.specs.Command.{shapeOf}
 use Rattle.command.specs.Length.{Told, unknown, fixed, tested, lengthOf}
 use Rattle.stream.specs.Stream.{Position, nothing, stands, atClose, Settling, More, Settled}
-use Rattle.line.specs.declared.Line.{Line}
-use Rattle.line.specs.declared.Line.the-variants.{Request, Reply}
-use Rattle.line.specs.declared.Extent.{Extent}
-use Rattle.line.specs.declared.Extent.the-variants.{Wait, Bad, Frame}
-use Rattle.line.specs.Line.{isLead, replyLength, extentOf, inTable}
+use Rattle.extent.specs.declared.Line.{Line}
+use Rattle.extent.specs.declared.Line.the-variants.{Request, Reply}
+use Rattle.extent.specs.declared.Extent.{Extent}
+use Rattle.extent.specs.declared.Extent.the-variants.{Wait, Bad, Frame}
+use Rattle.extent.specs.Line.{isLead, replyLength, extentOf, inTable}
 
 -- "4. Fewer bytes than a rule needs: wait."
 abbrev pub need : ℕ → List ℕ → Position → Position

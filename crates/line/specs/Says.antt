@@ -18,10 +18,10 @@ use Rattle.stream.specs.Items.{items-none, items-next}
 use Rattle.stream.specs.declared.Step.{Step}
 use Rattle.stream.specs.Said.{saidStep}
 use Rattle.stream.specs.Lawful.{size-some, size-there}
-use Rattle.line.specs.declared.Line.{Line}
-use Rattle.line.specs.declared.Line.the-variants.{Request, Reply}
-use Rattle.line.specs.declared.Extent.the-variants.{Wait, Bad, Frame}
-use Rattle.line.specs.Line.{isLead, replyLength, lengthExtent, extentOf, inTable}
+use Rattle.extent.specs.declared.Line.{Line}
+use Rattle.extent.specs.declared.Line.the-variants.{Request, Reply}
+use Rattle.extent.specs.declared.Extent.the-variants.{Wait, Bad, Frame}
+use Rattle.extent.specs.Line.{isLead, replyLength, lengthExtent, extentOf, inTable}
 use Rattle.line.specs.Rule.{frameAt, lengthAt, behindLead, ruleAt, itemAt, frameItem, extentItem, settle}
 use Rattle.line.specs.Laws.{lawful}
 

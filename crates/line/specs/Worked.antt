@@ -3,7 +3,7 @@ use mathlib.Core.Path.{_≡_, refl}
 use mathlib.Core.List.{[], _∷_}
 use Rattle.sum.specs.Sum.{sumFrom}
 use Rattle.stream.specs.Stream.{reading, itemsUpTo, items}
-use Rattle.line.specs.declared.Line.the-variants.{Reply}
+use Rattle.extent.specs.declared.Line.the-variants.{Reply}
 use Rattle.line.specs.Rule.{settle}
 
 -- the reply A0 00 00 A0 inside one of eight bytes with a wrong sum

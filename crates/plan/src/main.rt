@@ -1,12 +1,12 @@
 // Checks a contractor's filter plan against the events that are wanted: docs/PLAN.md. It reads its arguments and the two files, and prints what crate
-// plan_told puts of the answers of crate filter_plan; crate plan_wanted reads the text of the wanted events.
+// plan_told puts of the answers of crates filter_plan and filter_since; crate plan_wanted reads the text of the wanted events.
 ghost use Prim.Native.Nat.{_≤_};
 ghost use mathlib.Core.Path.{_≡_};
 ghost use lib.ListN.{length};
 use filter_plan::Filters;
-use filter_plan::Since;
 use filter_plan::Verdict;
 use filter_plan::Went;
+use filter_since::Since;
 use libc::STDERR_FILENO;
 use libc::STDIN_FILENO;
 use libc::STDOUT_FILENO;
@@ -105,18 +105,18 @@ fn answer(out: &mut [u8], verdict: Verdict, plan: &[u8], wanted: &[u8], filters:
             (wanted.len() / filter_plan::EVENT) as u64,
         ),
         Verdict::Bad { request, number } => {
-            let s = filter_plan::request_at(plan, request);
+            let s = filter_since::request_at(plan, request);
             plan_told::bad(out, 0, request as u64, s, number)
         }
         Verdict::Hidden(j) => {
-            let e = filter_plan::event_at(wanted, j);
-            let since = filter_plan::hidden_since(plan, e.address, e.instance, e.kind);
+            let e = filter_since::event_at(wanted, j);
+            let since = filter_since::hidden_since(plan, e.address, e.instance, e.kind);
             match since {
                 Since::Request(k) => {
-                    let s = filter_plan::request_at(plan, k);
+                    let s = filter_since::request_at(plan, k);
                     plan_told::hidden(out, 0, j as u64, e.address, e.instance, e.kind, k as u64, s)
                 }
-                // An event that is hidden after good requests is so since one of them (`since-hidden` of filter_plan).
+                // An event that is hidden after good requests is so since one of them (`since-hidden` of filter_answers).
                 Since::Never => 0,
             }
         }
@@ -231,7 +231,7 @@ fn read_all(fd: i32, buf: &mut [u8]) -> Got {
 // Opens a file, or takes standard input for it, and reads it; or says what failed.
 fn load(path: &[u8], buf: &mut [u8]) -> Got {
     let mut fd = STDIN_FILENO;
-    let input = asked::is_input(path);
+    let input = options::is_input(path);
     if !input {
         fd = os::open_read(path);
     }
@@ -299,7 +299,7 @@ fn go(listed: bool, i: usize)
         complain(b"an argument is too long", b"");
         return;
     }
-    if asked::is_input(&plan[..n]) & asked::is_input(&list[..m]) {
+    if options::is_input(&plan[..n]) & options::is_input(&list[..m]) {
         complain(b"only one of the two files can be standard input", b"");
         return;
     }
@@ -313,15 +313,15 @@ fn main() {
     }
     let mut word = [0u8; WORD];
     let n = os::arg(1, &mut word);
-    if asked::same(&word[..n], b"--help") {
+    if options::same(&word[..n], b"--help") {
         help();
         return;
     }
-    if asked::same(&word[..n], b"--list") {
+    if options::same(&word[..n], b"--list") {
         go(true, 2);
         return;
     }
-    if asked::is_option(&word[..n]) {
+    if options::is_option(&word[..n]) {
         complain(b"no such option: ", &word[..n]);
         return;
     }

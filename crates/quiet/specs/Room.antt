@@ -2,8 +2,8 @@
 use Prim.Native.Nat.{ℕ, _+_, _≤_}
 use mathlib.Core.List.{List}
 use lib.ListN.{length}
-use Rattle.line.specs.declared.Line.the-variants.{Request}
-use Rattle.line.specs.Line.{capOf}
+use Rattle.extent.specs.declared.Line.the-variants.{Request}
+use Rattle.extent.specs.Line.{capOf}
 use Rattle.quiet_turns.specs.declared.Act.{Act}
 use Rattle.quiet_turns.specs.declared.Act.the-variants.{Failed, Read, Says}
 use Rattle.quiet_turns.specs.Room.{answerMost}

@@ -11,8 +11,8 @@ use native.Mathlib.Omega.{arith}
 use Rattle.refusal.specs.Test.{pick, clash}
 use Rattle.stream.specs.Stream.{Item, reading, nothing, stands, atClose, Settling, More, Settled, position, items}
 use Rattle.stream.specs.Items.{items-front}
-use Rattle.line.specs.declared.Line.the-variants.{Request}
-use Rattle.line.specs.Line.{capOf}
+use Rattle.extent.specs.declared.Line.the-variants.{Request}
+use Rattle.extent.specs.Line.{capOf}
 use Rattle.line.specs.Rule.{itemAt, settle}
 use Rattle.line.specs.Laws.{lawful, waits-few}
 use Rattle.line.specs.Says.{item-at, nothing-at, stands-at, items-end, items-at}

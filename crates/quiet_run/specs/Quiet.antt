@@ -9,7 +9,7 @@ use Rattle.refusal.specs.Test.{pick}
 use Rattle.frame.specs.Frame.{byte}
 use Rattle.profile.specs.Profile.{isInside}
 use Rattle.stream.specs.Stream.{Item, reading, items}
-use Rattle.line.specs.declared.Line.the-variants.{Request}
+use Rattle.extent.specs.declared.Line.the-variants.{Request}
 use Rattle.line.specs.Rule.{settle}
 
 -- "only items 0 and each is inside the profile": the number is 0, and the command, which is the third byte, is inside

@@ -6,7 +6,7 @@ use mathlib.Core.List.{List}
 use lib.ListN.{length, take, drop}
 use Rattle.refusal.specs.Test.{pick, clash}
 use Rattle.stream.specs.Stream.{reading, Position, nothing, stands}
-use Rattle.line.specs.declared.Line.the-variants.{Request}
+use Rattle.extent.specs.declared.Line.the-variants.{Request}
 use Rattle.line.specs.Rule.{itemAt}
 use Rattle.quiet_run.specs.declared.Scanned.{Scanned}
 use Rattle.quiet_run.specs.declared.Scanned.the-variants.{Past, Loud}

@@ -12,7 +12,7 @@ use Rattle.frame.specs.Frame.{byte}
 use Rattle.command.specs.Command.{shapeOf}
 use Rattle.profile.specs.Profile.{isInside}
 use Rattle.stream.specs.Stream.{reading, Position, nothing, stands}
-use Rattle.line.specs.declared.Line.the-variants.{Request}
+use Rattle.extent.specs.declared.Line.the-variants.{Request}
 use Rattle.line.specs.Rule.{itemAt}
 use Rattle.line.specs.Says.{none-at, stands-at}
 use Rattle.quiet_run.specs.declared.Scanned.the-variants.{Past, Loud}

@@ -3,7 +3,7 @@
 // commands are inside. Document 02, W-203.
 ghost use mathlib.Core.Path.{_≡_};
 ghost use Rattle.stream.specs.Stream.{reading, items};
-ghost use Rattle.line.specs.declared.Line.the-variants.{Request};
+ghost use Rattle.extent.specs.declared.Line.the-variants.{Request};
 ghost use Rattle.line.specs.Rule.{settle};
 ghost use Rattle.quiet_run.specs.Quiet.{isQuiet, quietRun, firstLoud};
 ghost use Rattle.quiet_run.specs.Scan.{scanned, saidFirst};

@@ -10,8 +10,8 @@ use native.Mathlib.Omega.{arith}
 use Rattle.lent.specs.Puts.{over}
 use Rattle.lent.specs.All.{placeAll, bufferAll}
 use Rattle.lent.specs.Over.{over-length}
-use Rattle.line.specs.declared.Line.the-variants.{Request}
-use Rattle.line.specs.Line.{capOf}
+use Rattle.extent.specs.declared.Line.the-variants.{Request}
+use Rattle.extent.specs.Line.{capOf}
 use Rattle.turns.specs.Turn.{inFront}
 use Rattle.turns.specs.Ends.{Parts}
 use Rattle.quiet_run.specs.declared.Scanned.{Scanned}
@@ -20,7 +20,7 @@ use Rattle.quiet_run.specs.Scan.{scanned}
 use Rattle.quiet_run.specs.Laws.{scan-goes-on}
 use Rattle.quiet_turns.specs.declared.Watch.{Watch}
 use Rattle.quiet_turns.specs.declared.Act.the-variants.{Read, Says}
-use Rattle.quiet_turns.specs.Answer.{plus, loudTexts, closedTexts}
+use Rattle.quiet_told.specs.Answer.{plus, loudTexts, closedTexts}
 use Rattle.quiet_turns.specs.Turn.{start, Turns}
 use Rattle.quiet_turns.specs.Run.{Run, readsPart, stopsAt, readsEnd}
 

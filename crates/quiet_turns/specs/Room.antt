@@ -15,8 +15,8 @@ use Rattle.lent.specs.All.{placeAll, bufferAll}
 use Rattle.lent.specs.Over.{over-length, over-append}
 use Rattle.stream.specs.Stream.{stands, items, whole}
 use Rattle.stream.specs.Lawful.{size-most}
-use Rattle.line.specs.declared.Line.the-variants.{Request}
-use Rattle.line.specs.Line.{capOf}
+use Rattle.extent.specs.declared.Line.the-variants.{Request}
+use Rattle.extent.specs.Line.{capOf}
 use Rattle.line.specs.Rule.{itemAt, settle}
 use Rattle.line.specs.Laws.{lawful, waits-few}
 use Rattle.line.specs.Says.{stands-at}
@@ -26,7 +26,7 @@ use Rattle.text.specs.Digits.{decimal-one}
 use Rattle.items.specs.Room.{number-digit}
 use Rattle.quiet_run.specs.Quiet.{First, none, loud, firstLoud}
 use Rattle.quiet_run.specs.Laws.{first-stands}
-use Rattle.quiet_turns.specs.Answer.{plus, outsideTexts, reasonTexts, placeTexts, loudTexts, closedTexts}
+use Rattle.quiet_told.specs.Answer.{plus, outsideTexts, reasonTexts, placeTexts, loudTexts, closedTexts}
 
 -- an item's number has one digit, and the item at most 13 bytes
 item-small : (closed : Bool) (s : List ℕ) (k m : ℕ) → itemAt Request closed s ≡ stands k m → (k < 10) × (m ≤ suc (capOf Request))

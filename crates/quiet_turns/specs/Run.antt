@@ -14,7 +14,7 @@ use Rattle.words.specs.Words.{text}
 use Rattle.frame.specs.Frame.{byte}
 use Rattle.lent.specs.All.{placeAll, bufferAll}
 use Rattle.stream.specs.Stream.{items, whole}
-use Rattle.line.specs.declared.Line.the-variants.{Request}
+use Rattle.extent.specs.declared.Line.the-variants.{Request}
 use Rattle.line.specs.Rule.{settle}
 use Rattle.quiet_run.specs.declared.Scanned.the-variants.{Past, Loud}
 use Rattle.quiet_run.specs.Quiet.{quietRun, First, none, loud, firstLoud}
@@ -22,7 +22,7 @@ use Rattle.quiet_run.specs.Scan.{scanned}
 use Rattle.quiet_run.specs.Laws.{quiet-first, scan-stands, scan-there, scan-goes-on, scan-stops, first-item, moved, first-moved}
 use Rattle.quiet_turns.specs.declared.Watch.{Watch}
 use Rattle.quiet_turns.specs.declared.Act.the-variants.{Read, Says}
-use Rattle.quiet_turns.specs.Answer.{full64, plus, loudTexts, answerTexts, closedTexts}
+use Rattle.quiet_told.specs.Answer.{full64, plus, loudTexts, answerTexts, closedTexts}
 use Rattle.quiet_turns.specs.Turn.{start, Turns}
 use Rattle.quiet_turns.specs.Turning.{part-there}
 use Rattle.quiet_turns.specs.Room.{answerMost, loud-most, closed-most, all-said}

@@ -9,15 +9,15 @@ use lib.IntN.{ℤ, pos, negsuc}
 use native.Mathlib.Omega.{arith}
 use Rattle.refusal.specs.Test.{clash}
 use Rattle.lent.specs.All.{placeAll, bufferAll}
-use Rattle.line.specs.declared.Line.the-variants.{Request}
-use Rattle.line.specs.Line.{capOf}
+use Rattle.extent.specs.declared.Line.the-variants.{Request}
+use Rattle.extent.specs.Line.{capOf}
 use Rattle.quiet_run.specs.declared.Scanned.{Scanned}
 use Rattle.quiet_run.specs.declared.Scanned.the-variants.{Past, Loud}
 use Rattle.quiet_run.specs.Scan.{scanned}
 use Rattle.quiet_run.specs.Laws.{scan-goes-on, scan-stands}
 use Rattle.quiet_turns.specs.declared.Watch.{Watch}
 use Rattle.quiet_turns.specs.declared.Act.the-variants.{Failed, Read, Says}
-use Rattle.quiet_turns.specs.Answer.{plus, loudTexts, closedTexts}
+use Rattle.quiet_told.specs.Answer.{plus, loudTexts, closedTexts}
 use Rattle.quiet_turns.specs.Room.{answerMost, loud-most, closed-most, all-place}
 use Rattle.quiet_turns.specs.Turn.{going, Does, Turns}
 

@@ -13,7 +13,7 @@ use Rattle.quiet_run.specs.Scan.{scanned}
 use Rattle.quiet_turns.specs.declared.Watch.{Watch}
 use Rattle.quiet_turns.specs.declared.Act.{Act}
 use Rattle.quiet_turns.specs.declared.Act.the-variants.{Failed, Read, Says}
-use Rattle.quiet_turns.specs.Answer.{plus, loudTexts, closedTexts}
+use Rattle.quiet_told.specs.Answer.{plus, loudTexts, closedTexts}
 
 -- a run begins with nothing passed and nothing held
 abbrev pub start : Watch

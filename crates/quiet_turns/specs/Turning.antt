@@ -1,49 +1,32 @@
--- A turn in steps: the answer for the last bytes, the scan of those that are there, and what the read answered.
+-- A turn in steps: the scan of the bytes that are there, and what the read answered.
 use Prim.Native.Nat.{ℕ, zero, suc, _+_, _-_, _≤_, min}
 use mathlib.Core.Path.{_≡_, refl, sym, ap, _∙_}
 use mathlib.Core.Bool.{true, false}
-use mathlib.Core.List.{List, [], _∷_, _++_}
+use mathlib.Core.List.{List, _++_}
 use lib.ListN.{length, take, drop, length-drop, take-append-drop}
 use lib.Seq.{take-append-le, drop-append-le}
 use lib.IntN.{ℤ, pos, negsuc}
 use native.Mathlib.Omega.{arith}
 use Rattle.refusal.specs.Test.{clash}
-use Rattle.words.specs.Words.{text}
 use Rattle.lent.specs.All.{PutsAll}
-use Rattle.stream.specs.Stream.{items}
-use Rattle.line.specs.declared.Line.the-variants.{Request}
-use Rattle.line.specs.Rule.{settle}
 use Rattle.turns.specs.declared.Turn.{Turn}
 use Rattle.turns.specs.declared.After.the-variants.{Failed as ReadFailed, Goes}
 use Rattle.turns.specs.Keep.{Keeps}
 use Rattle.turns.specs.Turn.{readAfter, saidAfter}
 use Rattle.turns.specs.Next.{take-least}
 use Rattle.quiet_run.specs.declared.Scanned.the-variants.{Past, Loud}
-use Rattle.quiet_run.specs.Quiet.{none, loud, firstLoud}
 use Rattle.quiet_run.specs.Scan.{scanned}
 use Rattle.quiet_run.specs.Laws.{scan-there}
 use Rattle.quiet_turns.specs.declared.Watch.{Watch}
 use Rattle.quiet_turns.specs.declared.Act.{Act}
 use Rattle.quiet_turns.specs.declared.Act.the-variants.{Failed, Read, Says}
-use Rattle.quiet_turns.specs.Answer.{plus, loudTexts, closedTexts}
+use Rattle.quiet_told.specs.Answer.{plus, loudTexts, closedTexts}
+use Rattle.quiet_told.specs.Putting.{part}
 use Rattle.quiet_turns.specs.Turn.{going, fails, says, doing, Onward, Turns}
 
 -- bytes that are there stay there with others behind them
 pub part-there : (m a : ℕ) (s t : List ℕ) → a + m ≤ length s → take m (drop a (s ++ t)) ≡ take m (drop a s)
 part-there m a s t h = rw (drop-append-le a s t (omega arith)) (take-append-le m (drop a s) t (simp length-drop (omega arith)))
-
-part : (a m : ℕ) → a + m - a ≡ m
-part a m = omega arith
-
--- the answer for the last bytes
-module _ (passed : ℕ) (s : List ℕ) {out out′ : List ℕ} {r : ℕ} where
-  pub last-none : none ≡ firstLoud 0 (items (settle Request) s) → PutsAll ((text "yes" ++ (10 ∷ [])) ∷ []) out 0 r out′
-      → PutsAll (closedTexts passed s) out 0 r out′
-  last-none e p = rw (← e) p
-
-  pub last-loud : (a k m n : ℕ) → loud a k m ≡ firstLoud 0 (items (settle Request) s) → n ≡ plus passed a
-      → PutsAll (loudTexts n k (take (a + m - a) (drop a s))) out 0 r out′ → PutsAll (closedTexts passed s) out 0 r out′
-  last-loud a k m n e q p = rw (← e, ← q, ← part a m) p
 
 -- more bytes are there: they are passed over, and the rest is kept; or one is not quiet
 module _ (passed end : ℕ) (buf : List ℕ) {out : List ℕ} where

@@ -1,20 +1,16 @@
-// The program quiet turn by turn: what it does next after each read, and the line that it answers, so that a run of any length is checked
-// in constant memory. The program above it only reads, writes and goes by these answers. It leans on crate quiet_run for the scan, on crate
-// turns for what a read makes of what is held, and on crates lent and text for the line. Document 02, W-203.
+// The program quiet turn by turn: what it does next after each read, so that a run of any length is checked in constant memory. The program
+// above it only reads, writes and goes by these answers. It leans on crate quiet_run for the scan, on crate turns for what a read makes of what
+// is held, and on crate quiet_told for the line that it answers. Document 02, W-203.
 ghost use Prim.Native.Nat.{_≤_, min};
 ghost use mathlib.Core.Path.{_≡_};
 ghost use lib.ListN.{length};
-ghost use Rattle.frame.specs.Frame.{byte};
-ghost use Rattle.lent.specs.All.{PutsAll};
-ghost use Rattle.quiet_turns.specs.Answer.{plus, outsideTexts, reasonTexts, placeTexts, loudTexts, closedTexts};
 ghost use Rattle.quiet_turns.specs.Turn.{start, Onward, Turns};
-use quiet_run::Found;
 use quiet_run::Scanned;
+use quiet_told::last;
+use quiet_told::loud;
+use quiet_told::plus;
 use turns::After;
 use turns::Turn;
-
-// The greatest number of 64 bits.
-const MOST: u64 = 18446744073709551615;
 
 // Where a run stands: how many bytes of it are passed over, and how many stand at the front of the buffer, held and not passed yet.
 pub struct Watch {
@@ -37,102 +33,10 @@ pub fn fresh() -> Watch
     Watch { passed: 0, held: 0 }
 }
 
-// A place so many bytes further, in 64 bits. One that is full stays so.
-fn plus(a: u64, b: u64) -> u64
-    ensures { λ r. ⌜ r ≡ plus a b ⌝ }
-{
-    if MOST - a < b { MOST } else { a + b }
-}
-
 fn least(a: usize, b: usize) -> usize
     ensures { λ r. ⌜ r ≡ min a b ⌝ }
 {
     if a < b { a } else { b }
-}
-
-// The third byte of an item, 0 where it has none.
-fn third(item: &[u8]) -> u8
-    ensures { λ r. ⌜ r ≡ byte 2 (now (item .entry)) ⌝ }
-{
-    if item.len() < 3 {
-        return 0;
-    }
-    item[2]
-}
-
-// Puts why a request is not quiet that is accepted: its command is outside the profile.
-fn outside(out: &mut [u8], at: usize, item: &[u8]) -> usize
-    ensures { λ r. ⌜ PutsAll (outsideTexts (now (item .entry))) (now (out .entry)) at r (now (out .exit)) ⌝ }
-{
-    let a = lent::word(out, at, b"command ");
-    let b = text::hex(out, a, third(item));
-    lent::word(out, b, b" is outside the profile")
-}
-
-// Puts why an item is not quiet, by its number.
-fn reason(out: &mut [u8], at: usize, number: u8, item: &[u8]) -> usize
-    ensures { λ r. ⌜ PutsAll (reasonTexts number (now (item .entry))) (now (out .entry)) at r (now (out .exit)) ⌝ }
-{
-    if number == 0 {
-        return outside(out, at, item);
-    }
-    if number == 1 {
-        return lent::word(out, at, b"the run ends inside a request");
-    }
-    if number == 2 {
-        return lent::word(out, at, b"no request begins here");
-    }
-    if number == 3 {
-        return lent::word(out, at, b"the command is unknown");
-    }
-    if number == 4 {
-        return lent::word(out, at, b"no such length byte or colour type");
-    }
-    if number == 6 {
-        return lent::word(out, at, b"the sum is wrong");
-    }
-    if number == 7 {
-        return lent::word(out, at, b"an argument is out of range");
-    }
-    lent::word(out, at, b"not a request")
-}
-
-// Puts which item is not quiet: its number, and its place in the run.
-fn place(out: &mut [u8], n: u64, number: u8) -> usize
-    ensures { λ r. ⌜ PutsAll (placeTexts n number) (now (out .entry)) 0 r (now (out .exit)) ⌝ }
-{
-    let a = lent::word(out, 0, b"no: item ");
-    let b = text::decimal(out, a, number as u64);
-    let c = lent::word(out, b, b" at byte ");
-    text::decimal(out, c, n)
-}
-
-// Puts the answer no: which item, its bytes, and why it is not quiet.
-fn loud(out: &mut [u8], n: u64, number: u8, item: &[u8]) -> usize
-    ensures { λ r. ⌜ PutsAll (loudTexts n number (now (item .entry))) (now (out .entry)) 0 r (now (out .exit)) ⌝ }
-{
-    let a = place(out, n, number);
-    let b = lent::word(out, a, b", ");
-    let c = text::hexes(out, b, item);
-    let d = lent::word(out, c, b": ");
-    let e = reason(out, d, number, item);
-    lent::byte(out, e, b'\n')
-}
-
-// Puts the answer for the last bytes of a run, in front of which so many are passed.
-fn last(out: &mut [u8], passed: u64, s: &[u8]) -> usize
-    ensures { λ r. ⌜ PutsAll (closedTexts passed (now (s .entry))) (now (out .entry)) 0 r (now (out .exit)) ⌝ }
-{
-    let found = quiet_run::first(s);
-    match found {
-        Found::None => lent::word(out, 0, b"yes\n"),
-        Found::Loud(at, number, size) => loud(
-            out,
-            plus(passed, at as u64),
-            number,
-            &s[at..at + size],
-        ),
-    }
 }
 
 // What to do where the buffer's bytes up to an end are there and more may come: they are passed over as far as they are quiet items, and

@@ -8,8 +8,8 @@ use Rattle.refusal.specs.Test.{clash}
 use Rattle.stream.specs.Stream.{Item, reading, Fed, nothingYet, found, Closed, empty, last, feed, close}
 use Rattle.stream.specs.Fewest.{Fewest, found-fewest}
 use Rattle.stream.specs.Cut.{feed-nothing, close-less}
-use Rattle.line.specs.declared.Line.{Line}
-use Rattle.line.specs.Line.{capOf}
+use Rattle.extent.specs.declared.Line.{Line}
+use Rattle.extent.specs.Line.{capOf}
 use Rattle.line.specs.Rule.{settle}
 use Rattle.line.specs.Laws.{lawful, waits-few}
 use Rattle.reader.specs.declared.Held.{Held}

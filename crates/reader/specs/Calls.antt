@@ -11,10 +11,10 @@ use Rattle.refusal.specs.Test.{clash}
 use Rattle.stream.specs.Stream.{nothing, stands, feed}
 use Rattle.stream.specs.Fewest.{feed-settled}
 use Rattle.stream.specs.Cut.{close-none, close-some}
-use Rattle.line.specs.declared.Line.{Line}
+use Rattle.extent.specs.declared.Line.{Line}
 use Rattle.line.specs.declared.At.{At}
 use Rattle.line.specs.declared.At.the-variants.{Nothing as At·Nothing, Item as At·Item}
-use Rattle.line.specs.Line.{capOf}
+use Rattle.extent.specs.Line.{capOf}
 use Rattle.line.specs.Rule.{settle, itemAt}
 use Rattle.line.specs.Said.{saidAt}
 use Rattle.line.specs.Says.{nothing-at, stands-at}

@@ -7,9 +7,9 @@ use lib.ListN.{length, take, length-take}
 use lib.Dec.{leb}
 use borrow.Author.Tests.{le-leb, lt-leb, leb-true, leb-false}
 use native.Mathlib.Omega.{arith}
-use Rattle.line.specs.declared.Line.{Line}
-use Rattle.line.specs.declared.Line.the-variants.{Request, Reply}
-use Rattle.line.specs.Line.{capOf}
+use Rattle.extent.specs.declared.Line.{Line}
+use Rattle.extent.specs.declared.Line.the-variants.{Request, Reply}
+use Rattle.extent.specs.Line.{capOf}
 use Rattle.reader.specs.declared.Held.{Held}
 use Rattle.reader.specs.Reader.{heldRoom, heldOf, hold}
 use Rattle.reader.specs.Arrays.{take-pad}

@@ -9,9 +9,9 @@ use Rattle.stream.specs.Stream.{Item, nothingYet, found, last, feed, close, ite
 use Rattle.stream.specs.Stream.{Run as Run′, fed as fed′, over as over′, closed as closed′, ended as ended′}
 use Rattle.stream.specs.Items.{items-bytes, items-counts, items-few}
 use Rattle.stream.specs.Cut.{run-items, run-calls, run-ends}
-use Rattle.line.specs.declared.Line.{Line}
-use Rattle.line.specs.declared.Line.the-variants.{Request, Reply}
-use Rattle.line.specs.Line.{capOf}
+use Rattle.extent.specs.declared.Line.{Line}
+use Rattle.extent.specs.declared.Line.the-variants.{Request, Reply}
+use Rattle.extent.specs.Line.{capOf}
 use Rattle.line.specs.Rule.{settle}
 use Rattle.line.specs.Laws.{lawful}
 use Rattle.reader.specs.declared.Held.{Held}

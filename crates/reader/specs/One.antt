@@ -2,7 +2,7 @@
 use Prim.Native.Nat.{ℕ}
 use mathlib.Core.Path.{_≡_, sym, ap, _∙_}
 use mathlib.Core.List.{List}
-use Rattle.line.specs.declared.Line.{Line}
+use Rattle.extent.specs.declared.Line.{Line}
 use Rattle.reader.specs.declared.Held.{Held}
 use Rattle.reader.specs.declared.Given.{Given}
 use Rattle.reader.specs.Reader.{saidFed, saidClosed, givenOf, closedOf, Feeds, Closes}

@@ -10,8 +10,8 @@ use Rattle.stream.specs.Stream.{More, Item, reading, Fed, nothingYet, found, Cl
 use Rattle.stream.specs.Lawful.{prefix-waits}
 use Rattle.stream.specs.Fewest.{Fewest, found-fewest}
 use Rattle.stream.specs.Cut.{feed-nothing, feed-less, close-empty, close-last, close-less}
-use Rattle.line.specs.declared.Line.{Line}
-use Rattle.line.specs.Line.{capOf}
+use Rattle.extent.specs.declared.Line.{Line}
+use Rattle.extent.specs.Line.{capOf}
 use Rattle.line.specs.Rule.{settle}
 use Rattle.line.specs.Laws.{lawful, by-few, fullest, waits-most}
 use Rattle.reader.specs.declared.Held.{Held}

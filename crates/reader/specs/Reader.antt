@@ -7,9 +7,9 @@ use lib.ListN.{length, take, replicate}
 use lib.Dec.{leb}
 use Rattle.refusal.specs.Test.{pick}
 use Rattle.stream.specs.Stream.{reading, Fed, nothingYet, found, Closed, empty, last, feed, close}
-use Rattle.line.specs.declared.Line.{Line}
-use Rattle.line.specs.declared.Line.the-variants.{Reply}
-use Rattle.line.specs.Line.{capOf, longestOf}
+use Rattle.extent.specs.declared.Line.{Line}
+use Rattle.extent.specs.declared.Line.the-variants.{Reply}
+use Rattle.extent.specs.Line.{capOf, longestOf}
 use Rattle.line.specs.Rule.{settle}
 use Rattle.reader.specs.declared.Held.{Held}
 use Rattle.reader.specs.declared.Given.{Given}

@@ -5,7 +5,7 @@ use mathlib.Core.Path.{_≡_}
 use mathlib.Core.List.{List, [], _∷_}
 use lib.ListN.{drop}
 use Rattle.stream.specs.Stream.{Item, nothingYet, found, empty, last}
-use Rattle.line.specs.declared.Line.{Line}
+use Rattle.extent.specs.declared.Line.{Line}
 use Rattle.reader.specs.declared.Held.{Held}
 use Rattle.reader.specs.declared.Given.{Given}
 use Rattle.reader.specs.Reader.{hold, saidFed, saidClosed, Feeds, Closes}

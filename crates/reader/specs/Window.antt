@@ -14,8 +14,8 @@ use Rattle.lent.specs.Puts.{Puts}
 use Rattle.stream.specs.Stream.{More, Settled}
 use Rattle.stream.specs.Stream.{reading, nothingYet, found, feed}
 use Rattle.stream.specs.Fewest.{feed-once, held-waits}
-use Rattle.line.specs.declared.Line.{Line}
-use Rattle.line.specs.Line.{capOf}
+use Rattle.extent.specs.declared.Line.{Line}
+use Rattle.extent.specs.Line.{capOf}
 use Rattle.line.specs.Rule.{settle}
 use Rattle.line.specs.Laws.{lawful, waits-few, by-few, in-window}
 use Rattle.reader.specs.declared.Window.{Window}

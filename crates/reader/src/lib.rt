@@ -12,7 +12,7 @@ ghost use mathlib.Core.Path.{_≡_};
 ghost use mathlib.Core.List.{[]};
 ghost use lib.ListN.{length};
 ghost use Rattle.stream.specs.Stream.{More, feed as feedOf};
-ghost use Rattle.line.specs.Line.{capOf};
+ghost use Rattle.extent.specs.Line.{capOf};
 ghost use Rattle.line.specs.Rule.{settle};
 ghost use Rattle.reader.specs.Reader.{heldRoom, itemRoom, pad, heldOf, hold, givenOf, nothingOf, Feeds, Closes};
 ghost use Rattle.reader.specs.Window.{Joined, windowOf};

@@ -2,8 +2,8 @@
 use Prim.Native.Nat.{ℕ, _+_, _≤_}
 use mathlib.Core.List.{List}
 use lib.ListN.{length}
-use Rattle.line.specs.declared.Line.the-variants.{Reply}
-use Rattle.line.specs.Line.{capOf}
+use Rattle.extent.specs.declared.Line.the-variants.{Reply}
+use Rattle.extent.specs.Line.{capOf}
 use Rattle.items.specs.Pour.{longestLine}
 
 -- the most bytes that one read gives: our choice, as many as a pipe holds

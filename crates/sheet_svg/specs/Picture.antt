@@ -1,5 +1,5 @@
 -- docs/SHEET.md, `--svg`, line by line. "Lines end in a line feed": each line's last text has it.
-use Prim.Native.Nat.{ℕ, _+_, _-_, _*_, _/_}
+use Prim.Native.Nat.{ℕ, _+_, _*_, _/_}
 use mathlib.Core.List.{List, [], _∷_, _++_}
 use lib.ListN.{getD}
 use Rattle.words.specs.Words.{text}
@@ -11,6 +11,7 @@ use Rattle.season.specs.declared.Boundaries.{Boundaries}
 use Rattle.season.specs.declared.Season.{Season}
 use Rattle.season.specs.Season.{noEvents, longer}
 use Rattle.figures.specs.Figures.{shareOf, greatestOf, spanOr, timeOr, titleTexts, beginOf, endOf}
+use Rattle.sheet_bars.specs.Bars.{barTexts, aboveTexts}
 use Rattle.sheet_svg.specs.declared.Scale.{Scale}
 
 -- THE FIRST LINES
@@ -56,17 +57,7 @@ rightTexts longest =
     ∷ text "<text x=\"706\" y=\"314\">0</text>\n"
     ∷ []
 
--- A BAR, by its x, its height h and its colour: "c is x + 14", "y is 310 - h, and v is y - 4". Its line, which ends in a value
-abbrev pub barTexts : ℕ → ℕ → List ℕ → List (List ℕ)
-barTexts x h colour =
-    text "<rect x=\"" ∷ decimalOf x ∷ text "\" y=\"" ∷ decimalOf (310 - h)
-    ∷ text "\" width=\"28\" height=\"" ∷ decimalOf h ∷ text "\" fill=\"" ∷ colour ∷ text "\"/>" ∷ []
-
-abbrev pub aboveTexts : ℕ → ℕ → List (List ℕ)
-aboveTexts x h =
-    text "<text x=\"" ∷ decimalOf (x + 14) ∷ text "\" y=\"" ∷ decimalOf (310 - h - 4)
-    ∷ text "\" text-anchor=\"middle\" font-size=\"10\">" ∷ []
-
+-- THE LINE OF A BAR, which ends in a value
 abbrev pub barLine : ℕ → ℕ → List ℕ → List (List ℕ) → List (List ℕ)
 barLine x h colour value = barTexts x h colour ++ aboveTexts x h ++ value ++ (text "</text>\n" ∷ [])
 

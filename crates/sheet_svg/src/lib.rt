@@ -1,6 +1,6 @@
 // The picture of the sheet of one corridor, in SVG: for each season four bars, and below them its name and its times. Everything is put
 // into a lent buffer, from a place on; each function answers the place behind what it put. It leans on crate figures for what the forms of
-// the sheet share, on season for a season, on lent and text for what is put. docs/SHEET.md, `--svg`.
+// the sheet share, on crate sheet_bars for a bar, on season for a season, on lent and text for what is put. docs/SHEET.md, `--svg`.
 ghost use Prim.Native.Nat.{_+_};
 ghost use mathlib.Core.Path.{_≡_};
 ghost use mathlib.Core.List.{[], _∷_};
@@ -9,30 +9,20 @@ ghost use Rattle.lent.specs.Puts.{Puts};
 ghost use Rattle.lent.specs.All.{PutsAll};
 ghost use Rattle.figures.specs.Figures.{shareOf, spanOr};
 ghost use Rattle.sheet_svg.specs.Picture.{headTexts, legendTexts, mostIn, mostOf, longestOf, scaleOf, leftTexts, rightTexts};
-ghost use Rattle.sheet_svg.specs.Picture.{barTexts, aboveTexts, countLine, gapHeight, hoursTexts, gapLine, placeOf, barsTexts, nameLine, timeLine};
+ghost use Rattle.sheet_svg.specs.Picture.{countLine, gapHeight, hoursTexts, gapLine, placeOf, barsTexts, nameLine, timeLine};
 ghost use Rattle.sheet_svg.specs.Picture.{seasonTexts, fourTexts, endTexts, pictureTexts};
 use season::Boundaries;
 use season::Corridor;
 use season::Season;
 use summary::Seconds;
 
-// How high the highest bar is, and the line on which the bars stand.
+// How high the highest bar is.
 const HIGH: u8 = 240;
-
-const FLOOR: u64 = 310;
 
 // What the highest bars stand for: the greatest of the twelve counts, and the longest of the longest gaps.
 struct Scale {
     pub most: u64,
     pub longest: Seconds,
-}
-
-// A text, and a number behind it.
-fn numbered(out: &mut [u8], at: usize, s: &[u8], n: u64) -> usize
-    ensures { λ r. ⌜ PutsAll (now (s .entry) ∷ decimalOf n ∷ []) (now (out .entry)) at r (now (out .exit)) ⌝ }
-{
-    let e = lent::word(out, at, s);
-    text::decimal(out, e, n)
 }
 
 // The picture's frame and its title.
@@ -142,7 +132,7 @@ fn left(out: &mut [u8], at: usize, most: u64) -> usize
         at,
         b"<path d=\"M60 70H700M60 190H700\" stroke=\"#cccccc\"/>\n",
     );
-    let b = numbered(
+    let b = sheet_bars::numbered(
         out,
         a,
         b"<text x=\"54\" y=\"74\" text-anchor=\"end\">",
@@ -164,27 +154,6 @@ fn right(out: &mut [u8], at: usize, longest: Seconds) -> usize
     let b = span_or(out, a, longest);
     let c = lent::word(out, b, b"</text>\n");
     lent::word(out, c, b"<text x=\"706\" y=\"314\">0</text>\n")
-}
-
-// A bar.
-fn bar(out: &mut [u8], at: usize, x: u16, h: u8, colour: &[u8]) -> usize
-    ensures { λ r. ⌜ PutsAll (barTexts x h (now (colour .entry))) (now (out .entry)) at r (now (out .exit)) ⌝ }
-{
-    let a = numbered(out, at, b"<rect x=\"", x as u64);
-    let b = numbered(out, a, b"\" y=\"", FLOOR - h as u64);
-    let c = numbered(out, b, b"\" width=\"28\" height=\"", h as u64);
-    let d = lent::word(out, c, b"\" fill=\"");
-    let e = lent::word(out, d, colour);
-    lent::word(out, e, b"\"/>")
-}
-
-// Where its value stands.
-fn above(out: &mut [u8], at: usize, x: u16, h: u8) -> usize
-    ensures { λ r. ⌜ PutsAll (aboveTexts x h) (now (out .entry)) at r (now (out .exit)) ⌝ }
-{
-    let a = numbered(out, at, b"<text x=\"", x as u64 + 14);
-    let b = numbered(out, a, b"\" y=\"", FLOOR - h as u64 - 4);
-    lent::word(out, b, b"\" text-anchor=\"middle\" font-size=\"10\">")
 }
 
 // How high the bar of a count is.
@@ -212,8 +181,8 @@ fn count_line(out: &mut [u8], at: usize, x: u16, n: u64, most: u64, colour: &[u8
     ensures { λ r. ⌜ PutsAll (countLine x n most (now (colour .entry))) (now (out .entry)) at r (now (out .exit)) ⌝ }
 {
     let h = height(n, most);
-    let a = bar(out, at, x, h, colour);
-    let b = above(out, a, x, h);
+    let a = sheet_bars::bar(out, at, x, h, colour);
+    let b = sheet_bars::above(out, a, x, h);
     let c = text::decimal(out, b, n);
     lent::word(out, c, b"</text>\n")
 }
@@ -236,8 +205,8 @@ fn gap_line(out: &mut [u8], at: usize, x: u16, gap: Seconds, longest: Seconds) -
     ensures { λ r. ⌜ PutsAll (gapLine x gap longest) (now (out .entry)) at r (now (out .exit)) ⌝ }
 {
     let h = gap_height(gap, longest);
-    let a = bar(out, at, x, h, b"#7f7f7f");
-    let b = above(out, a, x, h);
+    let a = sheet_bars::bar(out, at, x, h, b"#7f7f7f");
+    let b = sheet_bars::above(out, a, x, h);
     let c = hours(out, b, gap);
     lent::word(out, c, b"</text>\n")
 }
@@ -265,8 +234,8 @@ fn bars(out: &mut [u8], at: usize, m: Scale, g: u8, s: Season) -> usize
 fn name_line(out: &mut [u8], at: usize, g: u8) -> usize
     ensures { λ r. ⌜ PutsAll (nameLine g) (now (out .entry)) at r (now (out .exit)) ⌝ }
 {
-    let a = numbered(out, at, b"<text x=\"", place(g, 77) as u64);
-    let b = numbered(
+    let a = sheet_bars::numbered(out, at, b"<text x=\"", place(g, 77) as u64);
+    let b = sheet_bars::numbered(
         out,
         a,
         b"\" y=\"328\" text-anchor=\"middle\">season ",
@@ -279,7 +248,7 @@ fn name_line(out: &mut [u8], at: usize, g: u8) -> usize
 fn time_line(out: &mut [u8], at: usize, g: u8, s: &[u8], t: Seconds) -> usize
     ensures { λ r. ⌜ PutsAll (timeLine g (now (s .entry)) t) (now (out .entry)) at r (now (out .exit)) ⌝ }
 {
-    let a = numbered(out, at, b"<text x=\"", place(g, 77) as u64);
+    let a = sheet_bars::numbered(out, at, b"<text x=\"", place(g, 77) as u64);
     let b = lent::word(out, a, s);
     let c = figures::put_time(out, b, t);
     lent::word(out, c, b"</text>\n")

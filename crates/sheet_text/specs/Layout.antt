@@ -2,9 +2,8 @@
 use Prim.Native.Nat.{ℕ, _-_}
 use mathlib.Core.List.{List, [], _∷_}
 use lib.ListN.{length, replicate}
-use lib.Dec.{eqb}
-use Rattle.refusal.specs.Test.{pick}
-use Rattle.figures.specs.Figures.{greaterOf, shareOf}
+use Rattle.figures.specs.Figures.{greaterOf}
+use Rattle.sheet_bars.specs.Bars.{barLength}
 
 -- "Lines end in a line feed"
 abbrev pub feed : List ℕ
@@ -24,9 +23,6 @@ left w t = t ∷ blanks (w - length t) ∷ []
 -- "A bar is as many `#` as the count's *share* of 40, and one at least where the count is not 0; blanks behind them make it 40 wide"
 abbrev pub marks : ℕ → List ℕ
 marks n = replicate n 35
-
-abbrev pub barLength : ℕ → ℕ → ℕ
-barLength n most = pick (eqb n 0) (shareOf n most 40) (greaterOf 1 (shareOf n most 40))
 
 abbrev pub bar : ℕ → ℕ → List (List ℕ)
 bar n most = left 40 (marks (barLength n most))

@@ -3,13 +3,11 @@ use Prim.Native.Nat.{ℕ, zero, suc, _-_, _≤_, _<_}
 use mathlib.Core.Path.{_≡_, refl, ap}
 use mathlib.Core.List.{List, _∷_}
 use lib.ListN.{length, take, replicate}
-use borrow.Author.Tests.{le-leb, lt-leb, eq-eqb, ne-eqb}
+use borrow.Author.Tests.{le-leb, lt-leb}
 use native.Mathlib.Omega.{arith}
 use Rattle.summary.specs.declared.Seconds.{Seconds}
 use Rattle.summary.specs.declared.Seconds.the-variants.{Absent, At}
-use Rattle.figures.specs.Figures.{greaterOf, shareOf, timeOr}
-use Rattle.figures.specs.Share.{share-most}
-use Rattle.sheet_text.specs.Layout.{barLength}
+use Rattle.figures.specs.Figures.{greaterOf, timeOr}
 
 -- so many times the same byte
 pub take-same : (k n b : ℕ) → k ≤ n → take k (replicate n b) ≡ replicate k b
@@ -30,14 +28,3 @@ behind-none e = rw e
 
 pub behind-time : {t : Seconds} {s : ℕ} → t ≡ At s → 0 ≡ 19 - length (timeOr t)
 behind-time e = rw e
-
--- the length of a bar, by what its share is
-module _ (n most : ℕ) {k : ℕ} (e : k ≡ shareOf n most 40) where
-  pub bar-none : n ≡ 0 → (k ≡ barLength n most) × (k ≤ 40)
-  bar-none h = (rw (eq-eqb n 0 h) e, omega (arith, share-most n most 40))
-
-  pub bar-some : (n ≡ 0 → ⊥) → 1 ≤ k → (k ≡ barLength n most) × (k ≤ 40)
-  bar-some h l = (rw (ne-eqb n 0 h, le-leb 1 (shareOf n most 40) (omega arith)) e, omega (arith, share-most n most 40))
-
-  pub bar-one : (n ≡ 0 → ⊥) → k < 1 → (1 ≡ barLength n most) × (1 ≤ 40)
-  bar-one h l = (rw (ne-eqb n 0 h, lt-leb 1 (shareOf n most 40) (omega arith)), omega arith)

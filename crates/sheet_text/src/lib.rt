@@ -1,5 +1,5 @@
-// The sheet of one corridor as a page of text, put into a lent buffer from a place on. It leans on crate figures for times, spans, the title
-// and shares, on crates lent and text for what is put. docs/SHEET.md, "`--text`".
+// The sheet of one corridor as a page of text, put into a lent buffer from a place on. It leans on crate figures for times, spans and the
+// title, on crate sheet_bars for how long a bar is, on crates lent and text for what is put. docs/SHEET.md, "`--text`".
 ghost use Prim.Native.Nat.{_-_, _≤_, _<_};
 ghost use mathlib.Core.Path.{_≡_};
 ghost use mathlib.Core.List.{[], _∷_};
@@ -9,7 +9,7 @@ ghost use Rattle.text.specs.Text.{decimalOf};
 ghost use Rattle.lent.specs.Puts.{Puts};
 ghost use Rattle.lent.specs.All.{PutsAll};
 ghost use Rattle.figures.specs.Figures.{greaterOf, spanText, spanOr, timeOr};
-ghost use Rattle.sheet_text.specs.Layout.{feed, right as rightIn, left as leftIn, barLength, bar as barOf};
+ghost use Rattle.sheet_text.specs.Layout.{feed, right as rightIn, left as leftIn, bar as barOf};
 ghost use Rattle.sheet_text.specs.Page.{seasonTexts, countsHead, whenTexts, countTexts, countsRow, countsTexts, gapsHead, meanOr, gapsRow, gapsTexts};
 ghost use Rattle.sheet_text.specs.Page.{barRow, barRows, barsOf, barsTexts, pageTexts};
 use season::Boundaries;
@@ -206,22 +206,11 @@ fn put_gaps(out: &mut [u8], at: usize, seasons: [Season; tally::SEASONS]) -> usi
     gaps_row(out, g, 3, seasons[3])
 }
 
-// How many marks the bar of a count has, where most is the greatest.
-fn length_of(n: u64, most: u64) -> usize
-    ensures { λ r. ⌜ (r ≡ barLength n most) × (r ≤ 40) ⌝ }
-{
-    let k = figures::share(n, most, 40) as usize;
-    if n == 0 {
-        return k;
-    }
-    if 1 <= k { k } else { 1 }
-}
-
 // A bar: its marks, and blanks behind them.
 fn bar(out: &mut [u8], at: usize, n: u64, most: u64) -> usize
     ensures { λ r. ⌜ PutsAll (barOf n most) (now (out .entry)) at r (now (out .exit)) ⌝ }
 {
-    let k = length_of(n, most);
+    let k = sheet_bars::length_of(n, most);
     let e = same(out, at, b'#', k);
     same(out, e, b' ', WIDEST - k)
 }

@@ -9,8 +9,8 @@ use native.Mathlib.Omega.{arith}
 use Rattle.lent.specs.Puts.{over}
 use Rattle.lent.specs.Over.{over-length}
 use Rattle.stream.specs.Stream.{Item, reading, countsOf}
-use Rattle.line.specs.declared.Line.{Line}
-use Rattle.line.specs.Line.{capOf}
+use Rattle.extent.specs.declared.Line.{Line}
+use Rattle.extent.specs.Line.{capOf}
 use Rattle.line.specs.Says.{stands-at}
 use Rattle.printed.specs.Text.{textOf}
 use Rattle.items.specs.Pour.{longestLine}

@@ -10,7 +10,7 @@ use borrow.Author.Tests.{leb-true, leb-false}
 use native.Mathlib.Nat.{add-zero}
 use native.Mathlib.Omega.{arith}
 use Rattle.stream.specs.Stream.{Item, countsOf}
-use Rattle.line.specs.declared.Line.{Line}
+use Rattle.extent.specs.declared.Line.{Line}
 use Rattle.printed.specs.Text.{textOf}
 use Rattle.printed.specs.Length.{text-none}
 use Rattle.items.specs.declared.Poured.{Poured}

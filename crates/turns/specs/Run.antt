@@ -10,7 +10,7 @@ use native.Mathlib.Omega.{arith}
 use Rattle.refusal.specs.Test.{clash}
 use Rattle.stream.specs.Stream.{nothing, items, whole}
 use Rattle.stream.specs.Items.{items-none}
-use Rattle.line.specs.declared.Line.{Line}
+use Rattle.extent.specs.declared.Line.{Line}
 use Rattle.line.specs.Rule.{itemAt, settle}
 use Rattle.line.specs.Laws.{lawful}
 use Rattle.printed.specs.Text.{textOf}

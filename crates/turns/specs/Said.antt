@@ -8,8 +8,8 @@ use lib.Seq.{drop-drop, take-append-seam}
 use native.Mathlib.Omega.{arith}
 use Rattle.refusal.specs.Test.{pick, clash}
 use Rattle.stream.specs.Stream.{Item, countsOf}
-use Rattle.line.specs.declared.Line.{Line}
-use Rattle.line.specs.Line.{capOf}
+use Rattle.extent.specs.declared.Line.{Line}
+use Rattle.extent.specs.Line.{capOf}
 use Rattle.printed.specs.Text.{textOf}
 use Rattle.items.specs.Pour.{ready, longestLine}
 use Rattle.items.specs.Poured.{rest, fitting-most}

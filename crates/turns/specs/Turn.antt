@@ -8,7 +8,7 @@ use lib.ListN.{length, drop}
 use lib.IntN.{ℤ, pos, negsuc}
 use Rattle.refusal.specs.Test.{pick, clash}
 use Rattle.stream.specs.Stream.{Item, countsOf}
-use Rattle.line.specs.declared.Line.{Line}
+use Rattle.extent.specs.declared.Line.{Line}
 use Rattle.printed.specs.Text.{textOf}
 use Rattle.items.specs.Pour.{poured}
 use Rattle.turns.specs.declared.Turn.{Turn}

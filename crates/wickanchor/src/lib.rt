@@ -26,20 +26,21 @@ ghost use Rattle.event.specs.Writing.{eventFrame};
 ghost use Rattle.names.specs.Names.{nameOf as textOf};
 ghost use Rattle.maps.specs.Maps.{maskOf, scenesOf, gearOf, typesOf, countOf, lowestOf};
 ghost use Rattle.filters.specs.Filters.{filtersOf, entryOf};
-ghost use Rattle.filter_plan.specs.Plan.{leftOf, checked, sinceOf};
+ghost use Rattle.filter_plan.specs.Plan.{leftOf, checked};
 ghost use Rattle.filter_plan.specs.Table.{leftBy};
+ghost use Rattle.filter_since.specs.Trace.{sinceOf};
 ghost use Rattle.summary.specs.Summary.{countedIn, counting};
 ghost use Rattle.capture.specs.Capture.{opened, counted, prefixed, found, nothingKept, entryAt};
 ghost use Rattle.report.specs.Report.{reported, reporting};
 ghost use Rattle.by_parts.specs.Parts.{begun, parted, ended};
 ghost use Rattle.book.specs.Ticks.{timed, freshTimed, GivesUp};
 ghost use Rattle.stream.specs.Stream.{items};
-ghost use Rattle.line.specs.declared.Line.the-variants.{Request};
+ghost use Rattle.extent.specs.declared.Line.the-variants.{Request};
 ghost use Rattle.line.specs.Rule.{itemAt, settle};
 ghost use Rattle.quiet_run.specs.Quiet.{firstLoud};
 ghost use Rattle.reader.specs.Reader.{hold};
 ghost use Rattle.c_datagrams.specs.Written.{WrittenOut};
-ghost use Rattle.c_datagrams.specs.Requests.{aimOut, requestOut, addressIn};
+ghost use Rattle.c_requests.specs.Requests.{aimOut, requestOut, addressIn};
 ghost use Rattle.c_datagrams.specs.Replies.{replyOut, nameNo, codeOut};
 ghost use Rattle.c_datagrams.specs.Events.{eventOut, macIn};
 ghost use Rattle.c_values.specs.Numbers.{numberOut, lineOut, deviceOut, entryOut};
@@ -900,5 +901,5 @@ pub extern "C" fn wick_plan_left(plan: &[u8]) -> WickPlanLeft
 pub extern "C" fn wick_plan_since(plan: &[u8], address: u8, instance: u8, kind: u8) -> WickSince
     ensures { λ w. ⌜ w ≡ sinceOut (sinceOf (now (plan .entry)) address instance kind) ⌝ }
 {
-    c_plan::since_out(filter_plan::hidden_since(plan, address, instance, kind))
+    c_plan::since_out(filter_since::hidden_since(plan, address, instance, kind))
 }

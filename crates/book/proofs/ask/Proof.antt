@@ -1,6 +1,6 @@
 use mathlib.Core.Path.{sym, ap, _∙_}
 use borrow.Author.Needs.{needs}
-use Rattle.book.specs.Book.{saidGiven}
+use Rattle.free_number.specs.Number.{saidGiven}
 use Rattle.book.proofs.ask.Statement.{statement}
 use Rattle.book.proofs.ask.Tie as tie
 

@@ -4,7 +4,7 @@ use borrow.Author.Tests.{not-true, not-false}
 use borrow.Author.Needs.{needs}
 use Rattle.refusal.specs.Test.{tests}
 use Rattle.frame.specs.Frame.{byte}
-use Rattle.line.specs.Line.{isLead}
+use Rattle.extent.specs.Line.{isLead}
 use Rattle.line.specs.Extents.{frame-least}
 use Rattle.line.specs.Cases.{settle-noise, extent-step}
 use Rattle.line.specs.Rule.{settle}

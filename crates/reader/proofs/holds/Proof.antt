@@ -3,7 +3,7 @@ use mathlib.Core.Path.{_≡_}
 use lib.ListN.{length}
 use borrow.Author.Needs.{needs, length-unmapped}
 use native.Mathlib.Omega.{arith}
-use Rattle.line.specs.Line.{capOf}
+use Rattle.extent.specs.Line.{capOf}
 use Rattle.reader.specs.Claims.{holds-in, held-over}
 use Rattle.reader.proofs.holds.Statement.{statement}
 use Rattle.reader.proofs.holds.Tie as tie

@@ -5,7 +5,7 @@ use lib.ListN.{length}
 use lib.Seq.{length-take-le}
 use borrow.Author.Needs.{needs}
 use native.Mathlib.Omega.{arith}
-use Rattle.line.specs.Line.{capOf}
+use Rattle.extent.specs.Line.{capOf}
 use Rattle.reader.specs.Claims.{cap-fits}
 use Rattle.reader.specs.Window.{joins}
 use Rattle.reader.proofs.join.Statement.{statement}

@@ -2,7 +2,7 @@ use Prim.Native.Nat.{ℕ}
 use lib.ListN.{length-replicate}
 use borrow.Author.Needs.{needs}
 use Rattle.lent.specs.Behind.{puts-next, puts-none}
-use Rattle.sheet_text.specs.Layout.{barLength}
+use Rattle.sheet_bars.specs.Bars.{barLength}
 use Rattle.sheet_text.proofs.bar.Statement.{statement}
 use Rattle.sheet_text.proofs.bar.Tie as tie
 

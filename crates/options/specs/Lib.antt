@@ -1,0 +1,4 @@
+-- what the contracts cite
+pub mod Option
+-- what only serves proofs
+pub mod Same
