@@ -526,6 +526,52 @@ static void plan(void) {
     }
 }
 
+/* Clocks. One that was read is written as it stood, in no byte more or less. */
+static void clock(void) {
+    struct wick_clock_read r = wick_clock(g[0].bytes[0], g[1].bytes, g[1].n);
+    const struct wick_clock c = r.clock;
+    uint8_t text[WICK_CLOCK_MOST];
+    struct wick_wrote w = wick_write_clock(c, text, sizeof text);
+    printf("%u", r.refusal);
+    if (r.refusal) {
+        cleared(&r, sizeof r);
+        return;
+    }
+    printf(" time %u %u %u weekdays %02X day %u month %u year %u offset ", c.hour, c.minute, c.second, c.weekdays, c.day, c.month, c.year);
+    if (c.offset == WICK_OFFSET_NONE) printf("absent");
+    else printf("%s %u %u %u", c.offset == WICK_OFFSET_LATER ? "later" : "earlier", c.offset_hour, c.offset_minute, c.offset_second);
+    if (c.offset > WICK_OFFSET_EARLIER || (!c.offset && (c.offset_hour | c.offset_minute | c.offset_second))) printf(" NO SUCH OFFSET");
+    if (w.refusal || w.count != g[1].n || memcmp(text, g[1].bytes, w.count)) printf(" NOT THE SAME");
+}
+
+static int32_t seconds_in(uint8_t hour, uint8_t minute, uint8_t second) { return (hour * 60 + minute) * 60 + second; }
+
+/* Where a clock runs, it is at its time with its offset. */
+static void clock_runs(void) {
+    const uint8_t *b = g[0].bytes;
+    struct wick_clock_runs r = wick_clock_runs(b[0], (uint16_t)high_first(b + 1, 2), b[3], b[4], b[5], g[1].bytes, g[1].n);
+    const struct wick_clock c = wick_clock(b[0], g[1].bytes, g[1].n).clock;
+    const int32_t by = seconds_in(c.offset_hour, c.offset_minute, c.offset_second);
+    const int32_t at = seconds_in(c.hour, c.minute, c.second) + (c.offset == WICK_OFFSET_EARLIER ? -by : by);
+    printf("%u", r.refusal);
+    if (r.runs) printf(" second %ld", (long)r.second);
+    else if (!r.refusal) printf(" idle");
+    if (r.runs ? r.runs != 1 || r.refusal || r.second != at : r.second) printf(" NO SUCH SECOND");
+}
+
+/* What was written is read as the clock that was handed in: without a span where it has no offset, and every number of an offset but 0 and 1 as 2. */
+static void write_clock(void) {
+    const uint8_t *b = g[0].bytes;
+    struct wick_clock c = {b[0], b[1], b[2], b[3], b[4], b[5], b[6], b[7], b[8], b[9], b[10]};
+    uint8_t *out = lent(g[1]);
+    struct wick_wrote w = wick_write_clock(c, out, g[1].n);
+    struct wick_clock_read r = wick_clock(c.offset, out, w.count);
+    if (c.offset > WICK_OFFSET_EARLIER) c.offset = WICK_OFFSET_EARLIER;
+    if (!c.offset) c.offset_hour = c.offset_minute = c.offset_second = 0;
+    wrote(w, g[1], out);
+    if (!w.refusal && (r.refusal || memcmp(&r.clock, &c, sizeof c))) printf(" NOT THE SAME");
+}
+
 static void fresh_request(void) { fresh(WICK_REQUEST_LINE); }
 static void fresh_reply(void) { fresh(WICK_REPLY_LINE); }
 static void hold_request(void) { hold(WICK_REQUEST_LINE); }
@@ -878,7 +924,7 @@ static const struct {
     CALL(close_request), CALL(close_reply), CALL(show_request), CALL(show_reply), CALL(item_request), CALL(item_reply), CALL(quiet),
     CALL(capture_set), CALL(summary_set), CALL(mark_set), CALL(capture_empty), CALL(capture_append), CALL(capture_append_at),
     CALL(capture_run), CALL(capture_run_at), CALL(capture_open), CALL(capture_count), CALL(capture_prefix), CALL(capture_record), CALL(capture_show),
-    CALL(seasons), CALL(seasons_begin), CALL(seasons_part), CALL(seasons_end), CALL(plan),
+    CALL(seasons), CALL(seasons_begin), CALL(seasons_part), CALL(seasons_end), CALL(plan), CALL(clock), CALL(clock_runs), CALL(write_clock),
 };
 #define CALLS (sizeof calls / sizeof *calls)
 

@@ -1,7 +1,8 @@
 // The header in C++: it compiles, its functions link, the scenes that it names are the last that requests take, colour requests have the
 // sizes and fields that it names and none is longer, what it calls retired is read, marked and not written, 18 commands are
-// inside the quiet profile and a run of them passes, a filter plan with a swapped mask is found out, the table of commands has the shapes that it
-// names, the sizes and targets that it names for each layout of events are the ends of theirs, and captures, runs of datagrams and seasons, whole and part by part, are as it says.
+// inside the quiet profile and a run of them passes, a filter plan with a swapped mask is found out, clocks are as long as it names and run when arithmetic
+// says, the table of commands has the shapes that it names, the sizes and targets that it names for each layout of events are the ends of theirs, and
+// captures, runs of datagrams and seasons, whole and part by part, are as it says.
 #include "wickanchor.h"
 
 // What writing a request with these arguments is refused with.
@@ -141,6 +142,66 @@ static bool plans() {
         && !left.filters[2].mask && since.hidden == 1 && since.request == 1 && !never.hidden && most.answer == WICK_PLAN_YES
         && hidden.answer == WICK_PLAN_HIDDEN && hidden.place == 0 && over.refusal == WICK_FILTERS_FULL && over.place == WICK_PLAN_FILTERS_MOST
         && other.refusal == WICK_NOT_A_FILTER && other.place == 0;
+}
+
+// The bytes of a clock's text.
+static const uint8_t *text(const char *words) { return reinterpret_cast<const uint8_t *>(words); }
+
+static uint64_t length(const char *words) {
+    uint64_t n = 0;
+    while (words[n]) n++;
+    return n;
+}
+
+// Whether a clock of so many bytes is read, written as it stood where there is just room and not at all with a byte less, and is none with the other flag.
+static bool kept(uint8_t astronomical, const char *words, uint64_t n) {
+    const struct wick_clock_read r = wick_clock(astronomical, text(words), n);
+    uint8_t out[WICK_CLOCK_MOST] = {};
+    const bool no_room = wick_write_clock(r.clock, out, n - 1).refusal == WICK_NO_ROOM && !out[0];
+    const struct wick_wrote w = wick_write_clock(r.clock, out, n);
+    for (uint64_t i = 0; i < n; i++)
+        if (out[i] != text(words)[i]) return false;
+    return length(words) == n && r.refusal == WICK_OK && no_room && w.refusal == WICK_OK && w.count == n
+        && wick_clock(!astronomical, text(words), n).refusal == WICK_NOT_A_CLOCK;
+}
+
+// What a clock does on a day of 2026; whether it runs on 1 March, a Sunday, at this second; and whether it does not run then.
+static struct wick_clock_runs on(uint8_t month, uint8_t day, uint8_t weekday, uint8_t astronomical, const char *words) {
+    return wick_clock_runs(astronomical, 2026, month, day, weekday, text(words), length(words));
+}
+
+static bool runs_at(int32_t second, uint8_t astronomical, const char *words) {
+    const struct wick_clock_runs r = on(3, 1, 0, astronomical, words);
+    return r.refusal == WICK_OK && r.runs == 1 && r.second == second;
+}
+
+static bool idle(const char *words) {
+    const struct wick_clock_runs r = on(3, 1, 0, 0, words);
+    return r.refusal == WICK_OK && !r.runs && !r.second;
+}
+
+// The three clocks of the source are as long as the header says and run when arithmetic says; offsets carry others into the day before and the day after, and
+// of one of Mondays and one that is switched off no second is told. Small letters are no clock. There is no -00:00:00, and no weekday 7 and no 29 February,
+// also where the clock is switched off; a year over 99 is out of range before there is no room. Every number of an offset but 0 and 1 is an earlier one.
+static bool clocks() {
+    const char *const plain = "14:00:00 7F 01/00/00", *const sunset = "20:38:49 7F 00/00/00 00:30:00", *const sunrise = "07:14:23 41 00/00/00 -00:10:00";
+    const char *const off = "14:00:00 FF 00/00/00";
+    const struct wick_clock c = wick_clock(1, text(sunrise), WICK_CLOCK_EARLIER_BYTES).clock;
+    struct wick_clock other = c, over = c;
+    uint8_t out[WICK_CLOCK_MOST];
+    other.offset = 200;
+    over.year = 100;
+    return kept(0, plain, WICK_CLOCK_BYTES) && kept(1, sunset, WICK_CLOCK_LATER_BYTES) && kept(255, sunrise, WICK_CLOCK_EARLIER_BYTES)
+        && c.hour == 7 && c.minute == 14 && c.second == 23 && c.weekdays == 0x41 && !c.day && !c.month && !c.year && c.offset == WICK_OFFSET_EARLIER
+        && !c.offset_hour && c.offset_minute == 10 && !c.offset_second
+        && wick_clock(1, text(sunset), WICK_CLOCK_LATER_BYTES).clock.offset == WICK_OFFSET_LATER
+        && runs_at(50400, 0, plain) && runs_at(76129, 1, sunset) && runs_at(25463, 1, sunrise)
+        && runs_at(86400, 1, "23:50:00 01 01/03/26 00:10:00") && runs_at(-300, 1, "00:05:00 01 01/03/26 -00:10:00")
+        && idle("14:00:00 02 00/00/00") && idle(off) && wick_clock(0, text(off), WICK_CLOCK_BYTES).clock.weekdays & WICK_CLOCK_OFF
+        && on(3, 1, 0, 0, "14:00:00 7f 00/00/00").refusal == WICK_NOT_A_CLOCK && on(3, 1, 0, 1, "14:00:00 7F 00/00/00 -00:00:00").refusal == WICK_OUT_OF_RANGE
+        && on(3, 1, 7, 0, off).refusal == WICK_OUT_OF_RANGE && on(2, 29, 0, 0, off).refusal == WICK_OUT_OF_RANGE
+        && wick_write_clock(other, out, sizeof out).count == WICK_CLOCK_EARLIER_BYTES && out[21] == '-'
+        && wick_write_clock(over, out, 0).refusal == WICK_OUT_OF_RANGE;
 }
 
 // An event without data is as long as the least that the header names, one of all its data as long as the most and with its data where
@@ -309,6 +370,6 @@ int main() {
     const struct wick_reply r = wick_reply(frame, sizeof frame);
     const struct wick_wrote w = wick_write_reply(WICK_REPLY_ANSWER, r.sequence, frame + r.data_at, r.n, out, sizeof out);
     const struct wick_given v = wick_feed(WICK_REPLY_LINE, wick_reader(), out, w.count);
-    return r.refusal == WICK_OK && w.count == sizeof frame && v.has_item && v.item == 0 && v.count == w.count && scenes() && colours() && retired() && given_up() && quiet() && plans() && table() && layouts()
+    return r.refusal == WICK_OK && w.count == sizeof frame && v.has_item && v.item == 0 && v.count == w.count && scenes() && colours() && retired() && given_up() && quiet() && plans() && clocks() && table() && layouts()
         ? 0 : 1;
 }

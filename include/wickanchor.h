@@ -14,8 +14,8 @@
    `refusal` is 0 where a call is not refused; then the fields count. Else it is one of enum wick_refusal, and all other fields are 0 (but
    for mark, summary and bytes in use of an append or of a run of datagrams, which are handed back as they were), and a book that was lent is
    as it was; wick_plan and wick_plan_left name the request that is refused, the first bad one of the plan, and the second hands over the filters before it.
-   The lowest number that applies is given, but for 17, which comes right behind 3, and 13, which comes right before 8; calls of a
-   capture give the first in the order in which their refusals stand below. A refused writer writes no byte; one that is not refused writes
+   The lowest number that applies is given, but for 17, which comes right behind 3, 13, which comes right before 8, and 22, which comes before 8 where a
+   clock is written; calls of a capture give the first in the order in which their refusals stand below. A refused writer writes no byte; one that is not refused writes
    `count` bytes, and leaves those behind them. */
 #ifndef WICKANCHOR_H
 #define WICKANCHOR_H
@@ -32,8 +32,9 @@
    wick_request, in the place of a byte that said nothing, so that no other field moves. 11: the quiet profile (W-203): the functions whose names
    end in _quiet, wick_inside, wick_quiet, and refusal 13, which has a name. 12: the table of commands (W-209): wick_table. 13: ticks in the book
    (W-205): wick_give_up; struct wick_book is longer, its parts are lent to wick_ask and wick_answer, which hand no book back, and wick_ask takes
-   a tick. 14: a contractor's filter plan (W-212): wick_plan, wick_plan_left, wick_plan_since, and refusals 18 and 19, which have names. */
-#define WICKANCHOR_VERSION 14
+   a tick. 14: a contractor's filter plan (W-212): wick_plan, wick_plan_left, wick_plan_since, and refusals 18 and 19, which have names.
+   15: clocks of Domintell sites (W-214): wick_clock, wick_clock_runs, wick_write_clock, and refusals 21 and 22, which have names. */
+#define WICKANCHOR_VERSION 15
 
 #ifdef __cplusplus
 extern "C" {
@@ -70,6 +71,14 @@ extern "C" {
 #define WICK_PLAN_WANTED_BYTES 3
 #define WICK_PLAN_FILTERS_MOST 64
 #define WICK_PLAN_TYPE_MOST 15
+
+/* Of a clock: the bytes of its text without an offset, with one that is later and with one that is earlier, which is the longest; and the bit of the weekdays
+   that switches it off */
+#define WICK_CLOCK_BYTES 20
+#define WICK_CLOCK_LATER_BYTES 29
+#define WICK_CLOCK_EARLIER_BYTES 30
+#define WICK_CLOCK_MOST 30
+#define WICK_CLOCK_OFF 0x80
 
 /* Of captures: where the first record begins, the bytes of a record in front of its datagram, the most bytes of a record in each layout of
    events, how many counts a summary has, the bytes in front of each datagram of a run, how many seasons there are, and the most bytes that a
@@ -115,7 +124,9 @@ enum wick_refusal {
     WICK_RETIRED = 17,              /* command 0A, in writing and asking only; it comes behind 3 and before every other */
     WICK_NOT_A_FILTER = 18,         /* a request of a filter plan with a command other than 31 and 33 */
     WICK_FILTERS_FULL = 19,         /* one that needs a 65th filter */
-    WICK_NOT_RISING = 20            /* a boundary of seasons that is not above the one before */
+    WICK_NOT_RISING = 20,           /* a boundary of seasons that is not above the one before */
+    WICK_NOT_A_CLOCK = 21,          /* a text that is not of a clock's form */
+    WICK_OUT_OF_RANGE = 22          /* a field of a clock; a given date or weekday. In writing it comes before 8 */
 };
 
 /* The 33 commands, by the maker's names */
@@ -416,6 +427,33 @@ struct wick_plan_since {
     uint64_t request;               /* the first from which on the event is hidden to the end; 0 where it is not */
 };
 
+/* The offset of an astronomical clock: by how much it runs later or earlier than its time */
+enum wick_offset {
+    WICK_OFFSET_NONE = 0,
+    WICK_OFFSET_LATER = 1,
+    WICK_OFFSET_EARLIER = 2         /* as is every other number */
+};
+
+/* A clock of a Domintell site. A caller may make one up, and hands it in by value. */
+struct wick_clock {
+    uint8_t hour, minute, second;
+    uint8_t weekdays;               /* bit k stands for weekday k, 0 to 6 from Sunday; with WICK_CLOCK_OFF it never runs */
+    uint8_t day, month, year;       /* its restriction, each 0 for none; year 1 to 99 is 2001 to 2099 */
+    uint8_t offset;                 /* one of enum wick_offset; not WICK_OFFSET_NONE exactly where the clock is astronomical */
+    uint8_t offset_hour, offset_minute, offset_second;  /* where there is no offset: handed back 0, handed in not looked at */
+};
+
+struct wick_clock_read {
+    uint8_t refusal;
+    struct wick_clock clock;
+};
+
+struct wick_clock_runs {
+    uint8_t refusal;
+    uint8_t runs;                   /* 1 or 0 */
+    int32_t second;                 /* from the midnight with which the date begins: an offset may carry it below 0, or past 86,399; 0 where it does not run */
+};
+
 /* The version byte of a capture: the layout of its events */
 enum wick_capture_version {
     WICK_CAPTURE_THREE = 1,         /* the target has three bytes */
@@ -566,6 +604,9 @@ WICK_SIZE(struct wick_plan, 16);
 WICK_SIZE(struct wick_plan_filter, 4);
 WICK_SIZE(struct wick_plan_left, 280);
 WICK_SIZE(struct wick_plan_since, 16);
+WICK_SIZE(struct wick_clock, 11);
+WICK_SIZE(struct wick_clock_read, 12);
+WICK_SIZE(struct wick_clock_runs, 8);
 WICK_SIZE(struct wick_summary, 60);
 WICK_SIZE(struct wick_mark, 16);
 WICK_SIZE(struct wick_capture, 88);
@@ -730,6 +771,20 @@ struct wick_plan_left wick_plan_left(const uint8_t *plan, uint64_t length);
    type there, and before which it was not hidden. Ask it of plans that are good: of others, requests that are refused with 1 to 7 or 18 are passed over, and whether
    there is room for a filter is not judged. */
 struct wick_plan_since wick_plan_since(const uint8_t *plan, uint64_t length, uint8_t address, uint8_t instance, uint8_t kind);
+
+/* Reads the text of a clock of a Domintell site, from its time field to its end: HH:MM:SS WD DD/MM/YY, and where it is astronomical (not 0) a blank and its
+   offset behind it, HH:MM:SS, which is later, or -HH:MM:SS, which is earlier. WD are the weekdays, two hexadecimal digits in capitals; all others are decimal.
+   Refusals 21; 22 for hours over 23, minutes or seconds over 59, of the time or of the offset, a day over 31, a month over 12 or an offset of -00:00:00. */
+struct wick_clock_read wick_clock(uint8_t astronomical, const uint8_t *text, uint64_t length);
+
+/* Whether the clock of such a text runs on a day, and at which second. The weekday is 0 to 6 from Sunday, as given: it is not compared with the date. A clock
+   runs where it is not switched off, the bit of the weekday stands, and day, month and year of its restriction are each none or the date's, also where an
+   offset carries the second to the day before or after. Refusals 21, 22 as wick_clock; then 22 for a weekday over 6, a date that does not exist or one outside
+   of the years 2000 to 2099, whether the clock is switched off or not. */
+struct wick_clock_runs wick_clock_runs(uint8_t astronomical, uint16_t year, uint8_t month, uint8_t day, uint8_t weekday, const uint8_t *text, uint64_t length);
+
+/* Writes a clock as its text, without a zero byte behind it; what was read is written as it stood. Refusals 22 (as in reading, or a year over 99), 8. */
+struct wick_wrote wick_write_clock(struct wick_clock clock, uint8_t *out, uint64_t room);
 
 /* A capture is the first `used` bytes of a buffer: a version byte, then records one behind the other, each a length in two bytes, which
    counts what follows it, seconds in four, and an event's datagram; all numbers high byte first. Seconds never fall.

@@ -4,6 +4,7 @@
     python3 second/cases.py count      (how many lines of each kind)
     python3 second/cases.py run > run  (the bytes that the program quiet is run on)
     python3 second/cases.py plan > plan, and wanted > wanted  (the plan and the text that the program plan is run on)
+    python3 second/cases.py clocks > clocks  (the lines that the program clock is run on)
 """
 
 import os
@@ -4741,6 +4742,576 @@ def no_plan_calls():
     yield plan(MARCH, *MARCH_EVENTS)
 
 
+# Clocks at Domintell sites (document 02, W-214)
+
+def as_bytes(text):
+    return text if isinstance(text, bytes) else text.encode("latin-1")
+
+
+def clock(flag, text):
+    return call("clock", [flag], as_bytes(text))
+
+
+def runs_on(flag, date, weekday, text):
+    """Date: year, month and day, whether it exists or not."""
+    return call("clock_runs", [flag, *wide(date[0], 2), date[1], date[2], weekday], as_bytes(text))
+
+
+def write_clock(fields, buffer):
+    """Fields: hour, minute, second, weekdays, day, month, year, kind, and hour, minute and second of the offset."""
+    return call("write_clock", fields, buffer)
+
+
+# The examples of source 000, section 4.5.b, "Clocks (from v43.0)": 20, 29 and 30 bytes; and three in which no two fields are alike.
+SOURCE_CLOCKS = ["14:00:00 7F 01/00/00", "20:38:49 7F 00/00/00 00:30:00", "07:14:23 41 00/00/00 -00:10:00"]
+OWN_CLOCKS = ["13:59:27 6B 28/11/31", "03:17:46 2C 09/05/68 12:53:28", "19:42:35 5A 26/10/87 -21:06:54"]
+CLOCK_TEXTS = SOURCE_CLOCKS + OWN_CLOCKS
+
+# Where the numbers of two digits begin.
+TIME_PLACES, DATE_PLACES = [0, 3, 6], [12, 15, 18]
+LATER_PLACES, EARLIER_PLACES = [21, 24, 27], [22, 25, 28]
+
+# "00 is no, every other byte is yes."
+FLAGS = [0x00, 0x01, 0x02, 0xFF]
+
+
+def number_places(text):
+    """Where the decimal numbers of a good text begin."""
+    return TIME_PLACES + DATE_PLACES + {20: [], 29: LATER_PLACES, 30: EARLIER_PLACES}[len(text)]
+
+
+def put(text, place, part):
+    """The text with this part in its place."""
+    return text[:place] + part + text[place + len(part):]
+
+
+def own_flag(text, turn=0):
+    """A flag that says of a good text what it is."""
+    return 0x00 if len(text) == 20 else FLAGS[1 + turn % 3]
+
+
+def taken_out(text, place):
+    return text[:place] + text[place + 1:]
+
+
+SUNDAY = (2026, 3, 1)
+
+# What the program clock is run on, for that Sunday: the source's three examples; switched off; carried into the day before and into the day after; a
+# date that fits, one that does not, and an empty line; other weekdays; a date that no day has; small letters; an hour out of range; and a line with a
+# carriage return.
+CLOCKS_OF_A_SITE = """\
+14:00:00 7F 01/00/00
+20:38:49 7F 00/00/00 00:30:00
+07:14:23 41 00/00/00 -00:10:00
+14:00:00 FF 00/00/00
+00:05:00 7F 00/00/00 -00:10:00
+23:45:00 01 00/00/00 00:30:00
+06:30:00 01 01/03/26
+06:30:00 7F 01/03/27
+
+22:15:00 3E 00/00/00
+09:00:00 7F 31/02/00
+20:38:49 7f 00/00/00 00:30:00
+24:00:00 7F 00/00/00
+08:05:00 7F 00/00/00\r
+"""
+
+
+def printed_clocks():
+    """What source 000 prints of clocks in sections 4.4, 4.5.b, 4.5.c and 4.5.d, with and without what stands before the time field and behind the last
+    one; its patterns; other texts of it."""
+    bare = SOURCE_CLOCKS + ["14:00:00 FF 00/00/00", "00:22:00 7F 00/05/09", "00:22:00 FF 00/05/09", "01:22:00 08 00/00/00", "00:00:00 7F 00/00/00",
+                            "08:05:00 7F 00/00/00", "08:30:00 7F 00/00/00", "18:02:00 7F 00/00/00", "00:38:00 7F 04/01/00",
+                            "14:00:00 7F 00/00/23", "14:00:00 7F 00/10/23", "14:00:00 7F 00/01/00", "21:08:49 7F 00/00/00", "20:48:49 7F 00/00/00"]
+    more = ["00:00:00 7F 00/00/00 -600", "00:00:00 7F 00/00/00 600", "00:00:00 7F 00/00/00 -00:10:00", "08:05:00 7F 00/00/00 Clock[SUNRISE]",
+            "08:05:00 7F 00/00/00 Clock[SUNRISE] [READONLY]", "08:05:00 7F 00/00/00 Clock[SUNRISE][READONLY]", "18:02:00 7F 00/00/00 Clock[SUNSET]",
+            "08:30:00 7F 00/00/00 NAME[House|||]", "00:38:00 7F 04/01/00 Clock", "00:00:00 7F 00/00/00 Clock[RESET]",
+            "20:38:49 7F 00/00/00 00:30:00 Clock[SUNSET]", "20:38:49 7F 00/00/00 00:30:00[SUNSET]",
+            "07:14:23 41 00/00/00 -00:10:00 Clock[SUNRISE] [READONLY]", "HH:MM:SS WD DD/MM/YY", "HH:MM:SS WD DD/MM/YY HH':MM':ss'",
+            "HH:MM:SS WD DD/MM/YY HH:MM:SS", "12:32:00 21.6", "14:34 29/12/22", "14:34 29/12/2022",
+            "00/00/23", "01/00/00", "15.5-02:45:00", "08:05", "14h00m00", "7F", "20h38m49 + 30 min = 20h48m49"]
+    for turn, text in enumerate(bare + more):
+        for flag in [0x00, FLAGS[1 + turn % 3]]:
+            yield from [clock(flag, text), runs_on(flag, SUNDAY, 0, text)]
+    for text in SOURCE_CLOCKS + more[:3]:
+        for front in ["K", "%K", "CLK000001%K", "CLK000004%K", "CLK 2K", "CLK     2K", " ", "\t"]:
+            yield clock(0 if len(text) == 20 else 1, front + text)
+        for end in [" ", "\r", "\n", "\r\n", "\x00", "\t", " Clock", "[SUNRISE]", " [READONLY]", ";"]:
+            yield clock(0 if len(text) == 20 else 1, text + end)
+
+
+def clock_fields():
+    """Each number of a text on both sides of every edge; all weekdays in capitals, and with small letters."""
+    for text in OWN_CLOCKS:
+        for place in number_places(text):
+            for value in [0, 1, 9, 10, 11, 12, 13, 19, 20, 22, 23, 24, 25, 29, 30, 31, 32, 33, 39, 40, 58, 59, 60, 61, 69, 70, 89, 90, 98, 99]:
+                if len(text) == 20 or place > 20 or value in [0, 12, 13, 23, 24, 31, 32, 59, 60, 99]:
+                    yield clock(own_flag(text, value), put(text, place, "%02d" % value))
+    for weekdays in range(256):
+        text = CLOCK_TEXTS[weekdays % 6]
+        capitals = "%02X" % weekdays
+        yield clock(own_flag(text, weekdays), put(text, 9, capitals))
+        smalls = [small for small in [capitals.lower(), capitals[0].lower() + capitals[1], capitals[0] + capitals[1].lower()] if small != capitals]
+        yield from [clock(own_flag(text), put(text, 9, small)) for small in smalls[weekdays % 3:][:1]]
+
+
+# Beside digits, hexadecimal symbols, separators and signs, and what stands next to them.
+TELLING_BYTES = bytes([0x00, 0x09, 0x20, 0x2B, 0x2D, 0x2F, 0x30, 0x33, 0x39, 0x3A, 0x40, 0x41, 0x46, 0x47, 0x61, 0xB0, 0xFF])
+
+
+def other_clock_bytes():
+    """Every byte of good texts with telling other values; each byte twice, and two neighbours exchanged."""
+    for turn, text in enumerate(as_bytes(text) for text in OWN_CLOCKS):
+        for place in range(len(text)):
+            for value in TELLING_BYTES:
+                if value != text[place]:
+                    yield clock(own_flag(text, turn + place), replaced(text, place, value))
+            yield clock(own_flag(text, turn + place), text[:place + 1] + text[place:])
+            if place and text[place] != text[place - 1]:
+                yield clock(own_flag(text, place), text[:place - 1] + text[place:place + 1] + text[place - 1:place] + text[place + 1:])
+
+
+def clock_lengths():
+    """Texts of every length from none to 40: cut in front and behind, filled up with digits, blanks, offsets and text; a byte taken out, and one put in."""
+    for text in SOURCE_CLOCKS:
+        for size in range(len(text)):
+            yield from [clock(own_flag(text, size), text[:size]), clock(own_flag(text, size), text[-size:] if size else "")]
+            yield from [clock(0 if own_flag(text) else 1, text[:size]), clock(own_flag(text, size), taken_out(text, size))]
+        for size in range(len(text) + 1, 41):
+            more = size - len(text)
+            for filling in ["0" * 20, " " * 20, " 00:30:00 -00:10:00 ", " -00:10:00 00:30:00 ", "\x00" * 20]:
+                yield clock(own_flag(text, size), text + filling[:more])
+            yield from [clock(0 if own_flag(text) else 1, text + " 00:30:00 -00:10:00 "[:more]), clock(own_flag(text, size), "0" * more + text)]
+            yield runs_on(own_flag(text, size), SUNDAY, 0, text + " 00:30:00 00:30:00 00"[:more])
+        for place in range(len(text) + 1):
+            for sign in "0 -:":
+                yield clock(own_flag(text, place), text[:place] + sign + text[place:])
+    for size in range(41):
+        for flag in [0x00, FLAGS[1 + size % 3]]:
+            yield from [clock(flag, "0" * size), clock(flag, [" ", "-", "\x00", "7"][size % 4] * size)]
+        yield runs_on(size % 2, SUNDAY, 0, pattern(size))
+    # 256 bytes more than a text has, and the longest that a line holds
+    for text in SOURCE_CLOCKS:
+        for size in [256, 512, 1024]:
+            yield clock(own_flag(text, size), text + text[:1] * size)
+    yield from [clock(0, "0" * 1350), clock(1, " " * 1350)]
+
+
+def clock_flags():
+    """Every flag beside texts of both kinds: "an offset stands exactly where the clock is astronomical"."""
+    for flag in range(256):
+        yield [clock(flag, CLOCK_TEXTS[flag % 5]), runs_on(flag, SUNDAY, 0, SOURCE_CLOCKS[flag // 2 % 3])][flag % 2]
+    for flag in FLAGS:
+        for text in CLOCK_TEXTS:
+            yield from [clock(flag, text), runs_on(flag, (2031, 11, 28), 3, text), runs_on(flag, SUNDAY, 0, text)]
+        for text in SOURCE_CLOCKS:
+            yield from [clock(flag, text[:20]), clock(flag, text[:20] + " "), clock(flag, text[:20] + " -"), clock(flag, text[:20] + " 00:00:00")]
+
+
+def clock_signs():
+    """Blanks for zeros, other signs in front of the offset, of the numbers and of the whole, both signs, other minus signs; separators exchanged throughout."""
+    for text in OWN_CLOCKS[1:] + ["00:00:00 00 00/00/00", "00:00:00 00 00/00/00 00:00:00", "00:00:01 01 01/01/01 -00:00:01"]:
+        flag = own_flag(text)
+        for place in number_places(text) + [9]:
+            for part in [" " + text[place + 1], text[place] + " ", "  ", "+" + text[place + 1], "-" + text[place + 1]]:
+                yield clock(flag, put(text, place, part))
+        for one, other in [(":", "."), (":", "h"), (":", " "), ("/", "-"), ("/", "."), ("/", ":"), (":", "/"), (" ", "\t"), (" ", "T"), (" ", ""), (" ", "  "),
+                           (":", ""), ("/", ""), (" ", "_"), (" ", "\xA0"), ("/", "\\"), (":", ";"), ("-", "+"), ("-", "~"), ("-", "\xAD"), ("-", "\x96"),
+                           ("-", "--"), ("-", "- "), ("-", " -")]:
+            if one in text:
+                yield clock(flag, text.replace(one, other))
+        yield from [clock(flag, sign + text) for sign in "+- 0"]
+        yield from [clock(flag, text.lower()), clock(flag, text.swapcase()), clock(flag, text[::-1]), clock(flag, text.encode("utf-16-le")),
+                    clock(flag, text.encode("utf-16-be"))]
+    for front in SOURCE_CLOCKS[0][:20], OWN_CLOCKS[1][:20], OWN_CLOCKS[2][:20]:
+        for offset in ["00:00:00", "-00:00:00", "+00:00:00", "+00:30:00", "+00:30:0", "--0:30:00", "-+0:30:00", "+-0:30:00", "- 0:30:00", " 00:30:00",
+                       " -0:30:00", "0-:30:00", "00:-30:00", "00:30:-0", "-0:30:00", "-00:30:0", "-000:30:00", "-00:030:00", "00:30:00-", "-00:30:00-",
+                       "00:30:00+", "30:00", "-30:00", "00:30", "-00:30", "1800", "-1800", "-600", "0", "-0", "-", "", " ", "00:30:00 ", "0:30:00", "00:0:00",
+                       "00.30.00", "\u221200:30:00".encode("utf-8"), "(00:30:00)", "-00:30:00.0", "000:30:00", "00:30:000", "0A:30:00", "-0a:30:00"]:
+            for flag in [0, 1]:
+                yield clock(flag, as_bytes(front + " ") + as_bytes(offset))
+
+
+OFFSETS = ["00:00:00", "00:00:01", "00:00:59", "00:01:00", "00:59:00", "00:59:59", "01:00:00", "12:34:56", "23:00:00", "23:59:59", "10:00:00", "00:10:00",
+           "24:00:00", "23:60:00", "23:59:60", "00:60:00", "00:00:60", "24:59:59", "99:99:99", "99:00:00", "00:99:00", "00:00:99", "29:00:00", "00:69:00",
+           "00:00:70"]
+
+
+def clock_offsets():
+    """Offsets at their edges, later and earlier, read and run."""
+    for turn, text in enumerate(["00:00:00 7F 00/00/00", "23:59:59 7F 00/00/00", "12:00:00 FF 31/12/99"]):
+        for sign in ["", "-"]:
+            for offset in OFFSETS:
+                whole = text[:20] + " " + sign + offset
+                yield from [clock(FLAGS[1 + turn], whole), runs_on(FLAGS[1 + turn], SUNDAY, 0, whole)][turn // 2:]
+
+
+# Texts that are not of the form, of one that is.
+FORM_FAULTS = [
+    lambda text: put(text, 9, "7f"), lambda text: text[:-1], lambda text: text + "0", lambda text: text + "\n", lambda text: put(text, 2, "."),
+    lambda text: put(text, 14, ":"), lambda text: " " + text, lambda text: put(text, 8, "\t"), lambda text: put(text, 7, " "), lambda text: put(text, 9, " 7"),
+    lambda text: put(text, 19, "A"), lambda text: put(text, len(text) - 1, "\x00"),
+]
+
+
+def out_of_range_texts(text):
+    """The text with each of its numbers out of range."""
+    ends = [24, 60, 60, 32, 13, None, 24, 60, 60]
+    for place, end in zip(number_places(text), ends):
+        if end is not None:
+            yield put(text, place, "%02d" % end)
+    if len(text) == 30:
+        yield put(text, 21, "-00:00:00")
+
+
+def clock_faults_at_once():
+    """21 beside 22: in one text, and in a text beside the date; 22 in both; several fields out of range."""
+    for turn, text in enumerate(SOURCE_CLOCKS[:2] + OWN_CLOCKS[2:]):
+        flag = own_flag(text, turn)
+        for number, wrong in enumerate(out_of_range_texts(text)):
+            yield from [clock(flag, wrong), clock(0 if flag else 1, wrong), runs_on(flag, SUNDAY, 0, wrong)]
+            for fault in FORM_FAULTS[number % 3::3]:
+                yield clock(flag, fault(wrong))
+            yield runs_on(flag, SUNDAY, 0, FORM_FAULTS[number % len(FORM_FAULTS)](wrong))
+            for date, weekday in [((2026, 2, 29), 0), ((2100, 1, 1), 0), (SUNDAY, 7)]:
+                yield runs_on(flag, date, weekday, wrong)
+        for number, fault in enumerate(FORM_FAULTS):
+            yield from [clock(flag, fault(text)), runs_on(flag, SUNDAY, 0, fault(text))]
+            for date, weekday in [((2026, 2, 29), 0), ((1999, 12, 31), 5), (SUNDAY, 7), ((0, 0, 0), 255)]:
+                yield runs_on(flag, date, weekday, fault(text))
+        # the other flag: 21, whatever the date is
+        for date, weekday in [(SUNDAY, 0), ((2026, 13, 1), 0), ((2026, 3, 0), 0), (SUNDAY, 255)]:
+            yield from [runs_on(0 if flag else 1, date, weekday, text), runs_on(flag, date, weekday, text)]
+    yield from [clock(0, "99:99:99 FF 99/99/99"), clock(1, "99:99:99 FF 99/99/99 99:99:99"), clock(1, "99:99:99 FF 99/99/99 -99:99:99"),
+                clock(1, "24:00:00 7F 00/00/00 -00:00:00"), clock(0, "24:00:00 7F 00/00/00 -00:00:00"), clock(1, "24:00:00 7f 00/00/00 -00:00:00")]
+
+
+def clock_texts():
+    for part in [printed_clocks(), clock_fields(), clock_lengths(), clock_flags(), clock_signs(), clock_offsets(), clock_faults_at_once(), other_clock_bytes()]:
+        yield from part
+
+
+def clocks_with_one_byte_changed():
+    """The source's three examples, each of their bytes with all of its 255 other values."""
+    for turn, text in enumerate(as_bytes(text) for text in SOURCE_CLOCKS):
+        for place in range(len(text)):
+            for value in range(256):
+                if value != text[place]:
+                    yield clock(own_flag(text, turn + place), replaced(text, place, value))
+
+
+# Clocks on a day
+
+EVERY_DAY = "06:07:08 7F 00/00/00"
+
+
+def midnights():
+    """Seconds about both midnights, by the hour, the minute and the second; the greatest and the lowest; and the time without an offset about both."""
+    ends = [("00:00:00", "00:00:00"), ("00:00:00", "00:00:01"), ("00:00:01", "00:00:01"), ("00:00:01", "00:00:02"), ("00:00:59", "00:01:00"),
+            ("00:01:00", "00:00:59"), ("00:10:00", "00:10:00"), ("00:05:00", "00:10:00"), ("00:59:59", "01:00:00"), ("01:00:00", "00:59:59"),
+            ("01:00:00", "01:00:01"), ("00:00:00", "23:59:59"), ("23:59:59", "23:59:59"), ("12:00:00", "12:00:00"), ("12:00:00", "12:00:01"),
+            ("12:00:01", "12:00:00"), ("23:59:59", "00:00:00"), ("23:59:59", "00:00:01"), ("23:59:58", "00:00:01"), ("23:59:59", "00:00:02"),
+            ("23:59:00", "00:01:00"), ("23:59:00", "00:00:59"), ("23:00:00", "01:00:00"), ("23:00:00", "00:59:59"), ("11:59:59", "12:00:00"),
+            ("00:00:00", "23:00:00"), ("22:22:22", "01:37:37"), ("22:22:22", "01:37:38"), ("22:22:22", "01:37:39"), ("20:38:49", "00:30:00"),
+            ("07:14:23", "00:10:00"), ("18:12:15", "18:12:16"), ("18:12:15", "05:47:45"), ("09:06:07", "09:06:08"), ("18:12:16", "00:00:00"),
+            ("09:06:08", "00:00:00"), ("16:00:00", "02:12:15"), ("16:00:00", "02:12:16"), ("16:00:00", "02:12:17")]
+    for turn, (time, offset) in enumerate(ends):
+        for sign in ["", "-"]:
+            for restriction in ["00/00/00", ["01/03/26", "28/02/26", "02/03/26"][turn % 3]]:
+                yield runs_on(FLAGS[1 + turn % 3], SUNDAY, 0, "%s 7F %s %s%s" % (time, restriction, sign, offset))
+        yield from [runs_on(0, SUNDAY, 0, time + " 01 00/00/00"), runs_on(1, SUNDAY, 0, time + " 7F 00/00/00 " + time)]
+    # each field of the time and of the offset by itself
+    for value in [0, 1, 2, 9, 10, 11, 18, 19, 20, 22, 23, 24, 29, 31, 39, 47, 58, 59]:
+        if value < 24:
+            yield from [runs_on(0, SUNDAY, 0, "%02d:00:00 7F 00/00/00" % value), runs_on(1, SUNDAY, 0, "00:00:00 7F 00/00/00 %02d:00:00" % value)]
+            yield runs_on(2, SUNDAY, 0, "12:30:30 7F 00/00/00 -%02d:00:01" % value)
+        yield from [runs_on(0, SUNDAY, 0, "00:%02d:00 7F 00/00/00" % value), runs_on(0, SUNDAY, 0, "00:00:%02d 7F 00/00/00" % value)]
+        yield from [runs_on(1, SUNDAY, 0, "00:00:00 7F 00/00/00 00:%02d:00" % value), runs_on(1, SUNDAY, 0, "00:00:00 7F 00/00/00 00:00:%02d" % value)]
+        yield from [runs_on(255, SUNDAY, 0, "00:30:00 7F 00/00/00 -00:%02d:01" % value), runs_on(255, SUNDAY, 0, "00:00:30 7F 00/00/00 -00:01:%02d" % value)]
+
+
+def weekdays_of_clocks():
+    """Every bit alone and every bit but it, with and without bit 80, beside each weekday and what is none; all weekdays of a clock; and a weekday that is
+    not the date's."""
+    for bit in range(8):
+        for weekdays in [1 << bit, 0xFF - (1 << bit), 0x7F & ~(1 << bit), 0x80 | 1 << bit]:
+            for weekday in [0, 1, 2, 3, 4, 5, 6, 7, 8, 255]:
+                yield runs_on(0, SUNDAY, weekday, put(EVERY_DAY, 9, "%02X" % weekdays))
+    for weekdays in range(256):
+        for weekday in [weekdays % 7, (weekdays >> 4) % 7]:
+            yield runs_on(weekdays % 2, (2026, 3, 1 + weekday), weekday, put(EVERY_DAY, 9, "%02X" % weekdays) + " -00:07:08" * (weekdays % 2))
+    for weekday in range(256):
+        yield runs_on(0, SUNDAY, weekday, put(EVERY_DAY, 9, ["7F", "7F", "FF", "01"][weekday // 8 % 4]))
+    for day in range(1, 8):
+        for weekday in range(7):
+            yield runs_on(0, (2024, 2, 15 + day), weekday, put(EVERY_DAY, 9, "%02X" % (1 << (day + 4) % 7)))
+
+
+def dates_given():
+    """All days of a leap year and of a common one, and what is none; all values of the day and the month; years and their last of February."""
+    for year in [2023, 2024]:
+        for month in range(14):
+            for day in range(33):
+                fits = "%02d/%02d/%02d" % (day, month, year % 100) if month < 13 and day < 32 else "00/00/00"
+                yield runs_on(0, (year, month, day), (day + month) % 7, put(EVERY_DAY, 12, fits))
+    for value in range(256):
+        yield [runs_on(0, (2024, value, 1 + value % 28), 3, EVERY_DAY), runs_on(0, (2024, 1 + value % 12, value), 3, EVERY_DAY)][value % 2]
+        yield runs_on(0, [(256 * value + 0xE8, 2, 29), (0x0700 + value, 2, 28 + value // 2 % 2)][value % 2], 3, EVERY_DAY)
+    years = [0, 1, 24, 99, 100, 400, 1000, 1582, 1600, 1700, 1899, 1900, 1996, 1998, 1999, 2000, 2001, 2002, 2003, 2004, 2005, 2095, 2096, 2097, 2098, 2099,
+             2100, 2101, 2104, 2200, 2400, 4000, 9999, 10000, 0x7FFF, 0x8000, 0x8000 + 2024, 0xE807, 0xFFFF]
+    for year in years:
+        for month, day in [(1, 1), (2, 28), (2, 29), (2, 30), (4, 31), (12, 31)]:
+            yield runs_on(0, (year, month, day), 6, put(EVERY_DAY, 18, "%02d" % (year % 100)))
+    for month in list(range(14)) + [16, 128, 255]:
+        for day in [0, 28, 29, 30, 31, 32, 128, 255]:
+            for year in [2000, 2099]:
+                yield runs_on(1, (year, month, day), 5, "06:07:08 20 00/00/00 00:00:01")
+    for year in range(2000, 2100):
+        yield runs_on(0, (year, 2, 29), year % 7, "06:07:08 7F 29/02/00")
+        yield from [runs_on(0, (year, 3, 1), 6, "06:07:08 40 00/00/%02d" % (year % 100)),
+                    runs_on(0, (year, 12, 31), 6, "06:07:08 40 00/00/%02d" % ((year + 1) % 100))]
+
+
+def restrictions():
+    """Day, month and year each not named, the date's, and another's, in all combinations; the year 2000, which no clock can name; dates whose numbers are
+    alike."""
+    for year, month, day in [(2026, 3, 15), (2012, 12, 12), (2000, 2, 29), (2099, 12, 31)]:
+        days = [0, day, day % 28 + 1, month, year % 100 % 32, 31]
+        months = [0, month, month % 12 + 1, day % 13, year % 100 % 13]
+        years = [0, year % 100, (year + 1) % 100, (year + 99) % 100, month, day, year // 100]
+        named = [(one, two, three) for one in dict.fromkeys(days) for two in dict.fromkeys(months) for three in dict.fromkeys(years)]
+        for number, restriction in enumerate(named):
+            text = "06:07:08 7F %02d/%02d/%02d" % restriction
+            yield runs_on(number % 2, (year, month, day), number % 7, text + " -06:07:09" * (number % 2))
+    for value in range(100):
+        yield runs_on(0, ([2000, 2026][value % 2], 6, 6), 0, "06:07:08 7F 00/00/%02d" % value)
+        yield [runs_on(0, (2026, 1 + value % 12, 6), 0, "06:07:08 7F 00/%02d/00" % (value % 14)),
+               runs_on(0, (2026, 7, 1 + value % 31), 0, "06:07:08 7F %02d/00/00" % (value % 33))][value % 2]
+    # the bit of the weekday, and the restriction: each alone, both and none
+    for weekdays in ["01", "7E", "81", "FF", "00", "80"]:
+        for restriction in ["00/00/00", "01/03/26", "01/03/25", "02/03/26", "01/04/26"]:
+            yield runs_on(0, SUNDAY, 0, "06:07:08 %s %s" % (weekdays, restriction))
+
+
+# Dates of clocks that no day has.
+IMPOSSIBLE = ["31/02/00", "30/02/00", "29/02/23", "29/02/25", "30/02/24", "31/04/00", "31/06/00", "31/09/00", "31/11/00", "31/04/24", "31/02/24", "29/02/99",
+              "31/11/99"]
+
+
+def impossible_dates():
+    """They are read, written and never run; and dates near them, which are possible."""
+    for restriction in IMPOSSIBLE + ["29/02/00", "29/02/24", "29/02/96", "28/02/23", "31/00/00", "30/00/00", "29/00/00", "00/02/00", "31/12/99", "31/01/00",
+                                     "00/00/99"]:
+        day, month, year = (int(number) for number in restriction.split("/"))
+        for turn, offset in enumerate(["", " 00:00:00", " -12:00:00"]):
+            text = "06:07:08 7F " + restriction + offset
+            yield clock(FLAGS[turn], text)
+            dates = [(2000 + year, month or 5, min(day or 1, 28)), (2023, 2, 28), (2024, 2, 29), (2000, 2, 29), (2023, 3, 1), (2024, 3, 2), (2024, 4, 30),
+                     (2024, 5, 1), (2023, 12, 31)]
+            for date in [(2000 + year, month or 5, day or 1)] + dates[turn::3]:
+                yield runs_on(FLAGS[turn], date, 3, text)
+        yield write_clock([6, 7, 8, 0x7F, day, month, year, 0, 0, 0, 0], pattern(22))
+
+
+def switched_off():
+    """Bit 80: idle on every day, and 22 of a day that is none."""
+    for turn, weekdays in enumerate([0x80, 0x81, 0xC0, 0xFF, 0xBE, 0x00]):
+        for text in [OWN_CLOCKS[0], "06:07:08 7F 00/00/00", "06:07:08 7F 00/00/00 -00:00:01"]:
+            whole = put(text, 9, "%02X" % weekdays)
+            yield clock(own_flag(text), whole)
+            for date, weekday in [(SUNDAY, 0), ((2031, 11, 28), 6), ((2023, 2, 29), 0), ((2100, 1, 1), 5), ((1999, 12, 31), 5), (SUNDAY, 7), (SUNDAY, 255),
+                                  ((2026, 0, 1), 0), ((2026, 3, 0), 7), ((2000, 1, 1), 6)]:
+                yield runs_on(own_flag(text, turn), date, weekday, whole)
+
+
+def clocks_on_days():
+    for part in [midnights(), weekdays_of_clocks(), dates_given(), restrictions(), impossible_dates(), switched_off()]:
+        yield from part
+
+
+# Clocks written
+
+WRITTEN_CLOCKS = [[14, 0, 0, 0x7F, 1, 0, 0, 0, 0, 0, 0], [20, 38, 49, 0x7F, 0, 0, 0, 1, 0, 30, 0], [7, 14, 23, 0x41, 0, 0, 0, 2, 0, 10, 0],
+                  [13, 59, 27, 0x6B, 28, 11, 31, 0, 21, 6, 54], [3, 17, 46, 0x2C, 9, 5, 68, 1, 12, 53, 28], [19, 42, 35, 0x5A, 26, 10, 87, 0xFF, 21, 6, 54]]
+OVER_RANGE = {0: 24, 1: 60, 2: 60, 4: 32, 5: 13, 6: 100, 8: 24, 9: 60, 10: 60}  # by place; weekdays may be any, and the kind is one
+
+
+def with_field(fields, place, value):
+    return fields[:place] + [value] + fields[place + 1:]
+
+
+def fields_written():
+    """Every field about its edges in clocks of every kind; all weekdays, all kinds."""
+    edges = [0, 9, 10, 12, 13, 23, 24, 31, 32, 59, 60, 99, 100, 128, 255]
+    for turn, fields in enumerate(WRITTEN_CLOCKS):
+        for place, end in OVER_RANGE.items():
+            for value in edges if turn > 2 else [0, end - 1, end, end + 1, 255]:
+                yield write_clock(with_field(fields, place, value), pattern(31 + value % 3))
+    for value in range(256):
+        yield write_clock(with_field(WRITTEN_CLOCKS[value % 6], 3, value), pattern(30))
+        yield write_clock(with_field([WRITTEN_CLOCKS[5], [6, 7, 8, 9, 10, 11, 12, 0, 0, 0, 0]][value // 2 % 2], 7, value), pattern(30))
+    # kind 00: the three behind it count for nothing; earlier by nothing: 22, and later by nothing is an offset
+    for kind in [0x00, 0x01, 0x02, 0x7F, 0x80, 0xFE, 0xFF]:
+        for offset in [[0, 0, 0], [0, 0, 1], [0, 1, 0], [1, 0, 0], [23, 59, 59], [24, 0, 0], [23, 60, 59], [23, 59, 60], [255, 255, 255], [0, 0, 60],
+                       [0, 60, 0], [99, 99, 99]]:
+            yield from [write_clock([6, 7, 8, 0x89, 10, 11, 12, kind] + offset, pattern(size)) for size in [30, 20]]
+
+
+def clock_buffers():
+    """Buffers of every length about the text's; 22 beside a buffer that is too short."""
+    for fields in WRITTEN_CLOCKS:
+        for size in range(35):
+            yield write_clock(fields, pattern(size))
+            places = [place for place in OVER_RANGE if place < 7 or fields[7]]
+            place = places[size % len(places)]
+            yield write_clock(with_field(fields, place, OVER_RANGE[place] + size % 2), pattern(size))
+        for size in [64, 255, 256, 300]:
+            yield write_clock(fields, pattern(size))
+    for size in [0, 19, 20, 28, 29, 30, 31]:
+        for kind in [0x01, 0x02, 0xFF]:
+            yield write_clock([6, 7, 8, 9, 10, 11, 12, kind, 0, 0, 0], bytes([0x41]) * size)
+        yield from [write_clock([24, 60, 60, 0xFF, 32, 13, 100, 2, 0, 0, 0], pattern(size)), write_clock([255] * 11, pattern(size)),
+                    write_clock([0] * 11, pattern(size)), write_clock([0] * 7 + [1, 0, 0, 0], bytes(size)), write_clock([0] * 10 + [1], b"\xFF" * size),
+                    write_clock([0] * 7 + [3, 0, 0, 1], b"\xFF" * size)]
+
+
+def some_fields(chance):
+    """The fields of a good clock."""
+    kind = chance.pick([0, 1, 2, 1 + chance.below(255)])
+    offset = [chance.below(24), chance.below(60), chance.below(60)]
+    if kind > 1 and offset == [0, 0, 0]:
+        offset = [0, 0, 1]
+    restriction = [chance.pick([0, chance.below(end)]) for end in [32, 13, 100]]
+    return [chance.below(24), chance.below(60), chance.below(60), chance.pick([0x7F, chance.below(128), chance.below(256)]), *restriction, kind, *offset]
+
+
+def text_of_fields(fields):
+    buffer = bytearray(30)
+    return bytes(buffer[:opinion.write_clock(opinion.clock_of(bytes(fields)), buffer)])
+
+
+def some_date(chance):
+    """A date, which need not exist, and a weekday."""
+    if chance.one_in(6):
+        return (chance.pick([1999, 2000, 2001, 2096, 2099, 2100, chance.below(65536)]), chance.below(15), chance.below(34)), chance.below(9)
+    return (2000 + chance.below(100), 1 + chance.below(12), 1 + chance.below(28)), chance.below(7)
+
+
+def clocks_there_and_back():
+    """Clocks by chance, written and their texts read; texts read and their fields written; both asked for a day that their restriction names, and for
+    another."""
+    chance = Chance(214)
+    for text in CLOCK_TEXTS:
+        yield clock(own_flag(text), text)
+    for fields in WRITTEN_CLOCKS:
+        yield write_clock(fields, pattern(33))
+    for number in range(150):
+        fields = some_fields(chance)
+        text = text_of_fields(fields)
+        flag = 0 if fields[7] == 0 else FLAGS[1 + number % 3]
+        yield from [write_clock(fields, pattern(len(text) + chance.pick([0, 0, 1, 3]))), clock(flag, text)]
+        (year, month, day), weekday = some_date(chance)
+        yield runs_on(flag, (year, month, day), weekday, text)
+        named = (2000 + (fields[6] or year % 100), fields[5] or (1 if month > 12 else month), fields[4] or min(day, 28))
+        yield runs_on(flag, named, chance.below(7), text)
+
+
+def clocks_by_chance():
+    """Texts by chance, of which most are spoilt in one place or two, and days by chance."""
+    chance = Chance(215)
+    for _ in range(400):
+        text = text_of_fields(some_fields(chance))
+        flag = own_flag(text, chance.below(3)) if not chance.one_in(8) else chance.below(256)
+        for _ in range(chance.pick([0, 1, 1, 2])):
+            place, change = chance.below(len(text)), chance.below(5)
+            if change < 2:
+                text = replaced(text, place, chance.pick(b"0123456789ABCDEFabcdef :/-+"))
+            elif change == 2:
+                text = replaced(text, place, chance.below(256))
+            elif change == 3:
+                text = text[:place] + text[place + 1:]
+            else:
+                text = text[:place] + bytes([chance.pick(b"0123456789 :/-")]) + text[place:]
+        yield clock(flag, text)
+        yield runs_on(flag, *some_date(chance), text)
+    for _ in range(200):
+        fields = some_fields(chance)
+        if chance.one_in(3):
+            fields[chance.below(11)] = chance.below(256)
+        yield write_clock(fields, pattern(chance.pick([0, 19, 20, 28, 29, 30, 31, chance.below(40)])))
+
+
+def names_of_clock_refusals():
+    """The names of 21 and 22 into buffers of every size about theirs; their neighbours, and the same numbers of the other kinds and as hexadecimal."""
+    for number in [21, 22]:
+        for size in range(15):
+            yield call("name", [0, number], pattern(size))
+    for kind, number in [(0, 19), (0, 20), (0, 23), (0, 24), (0, 0x21), (0, 0x22), (1, 21), (1, 22), (2, 21), (3, 22), (4, 21), (5, 22), (0, 255)]:
+        yield call("name", [kind, number], pattern(13))
+
+
+def clocks_beside_what_is_carried():
+    """The book, the readers, the capture and the seasons in parts stay as they are, whether a clock is read, refused or written."""
+    yield from CARRIED + CARRIED_SHOWN[:4]
+    for line in [clock(0, SOURCE_CLOCKS[0]), clock(1, SOURCE_CLOCKS[0]), runs_on(1, SUNDAY, 0, SOURCE_CLOCKS[1]), runs_on(1, SUNDAY, 7, SOURCE_CLOCKS[1]),
+                 write_clock(WRITTEN_CLOCKS[2], pattern(30)), write_clock(WRITTEN_CLOCKS[2], pattern(29)), write_clock([255] * 11, pattern(30))]:
+        yield from [line] + CARRIED_SHOWN[:4]
+    yield from CARRIED_SHOWN + [clock(0, SOURCE_CLOCKS[0]), "help"]
+
+
+def clocks_written():
+    for part in [fields_written(), clock_buffers(), clocks_there_and_back(), clocks_by_chance(), names_of_clock_refusals(), clocks_beside_what_is_carried()]:
+        yield from part
+
+
+# Lines that are no call of clocks, by the rows of "What is no call", from its second; some are so by several rows.
+CLOCK_LINE, CLOCK_RUNS_LINE, WRITE_CLOCK_LINE = clock(0, SOURCE_CLOCKS[0]), runs_on(0, SUNDAY, 0, SOURCE_CLOCKS[0]), write_clock(WRITTEN_CLOCKS[0], pattern(20))
+
+CLOCK_NO_CALLS = [
+    filled(CLOCK_LINE, 4096), " " * 4090 + "clock 00 /", "clock 00 /" + " 00" * 1363, "clock_runs" + " 00" * 1362 + " /", "write_clock 00 /" + " 00" * 1361,
+    filled("clock zz", 4096), filled("clocks /", 4096), filled("clock", 4096),
+
+    "Clock 00 /", "CLOCK 00 /", "clocks 00 /", "cloc 00 /", "clock_ 00 /", "_clock 00 /", "clock/", "clock: 00 /", "clock\t00 /", "clock\r", "clock\x00 00 /",
+    "clock_run 00 07 EA 03 01 00 /", "clocks_run 00 /", "runs /", "clockruns 00 07 EA 03 01 00 /", "clock_write /", "write_clocks /", "writeclock /",
+    "write_Clock /", "clock_runs_ /", "clock_text 00 /", "read_clock 00 /", "clock_show", "clock_set", "weekday 07 EA 03 01", "date 07 EA 03 01",
+    "/ clock 00", "00 clock /", "clock_quiet 00 /", "write_clock_quiet /", "Clock_runs zz / /",
+
+    "clock 0 /", "clock 000 /", "clock 00 / 1", "clock 00 / 14:00:00 7F 01/00/00", "clock 00 / 14:00:00", "clock 00/", "clock 00 /31", "clock 00 //",
+    "clock zz", "clock zz / /", "clock 00 / zz", "clock / / zz", "clock 0x00 /", "clock 00 / 31\r", "clock 00 / \t", "clock -1 /", "clock \xFF /",
+    "clock_runs 00 2026 03 01 00 /", "clock_runs 00 2026-03-01 00 /", "clock_runs 0 07 EA 03 01 00 /", "clock_runs 00 07 EA 3 1 0 /", "clock_runs zz / /",
+    "write_clock 14 0 0 7F 1 0 0 0 0 0 0 /", "write_clock 0E 00 00 7F 01 00 00 00 00 00 0G /", "write_clock zz", "write_clock / / zz",
+
+    "clock", "clock 00", "clock 00 / / ", "clock / /", "clock 00 / 31 / 34", CLOCK_LINE + " /", CLOCK_LINE.replace(" / ", " "), "clock 00 31 34 3A 30 30",
+    "clock / 00 / / 00", "clock_runs", "clock_runs 00 07 EA 03 01 00", "clock_runs 00 / 07 EA / 03 / 01 / 00 /",
+    "clock_runs 00 / 07 EA 03 01 00 /", CLOCK_RUNS_LINE + " /", CLOCK_RUNS_LINE.replace(" / ", " "), "write_clock",
+    "write_clock 0E 00 00 7F 01 00 00 00 00 00 00", "write_clock 0E 00 00 / 7F / 01 00 00 / 00 00 00 00 /", WRITE_CLOCK_LINE + " /",
+    WRITE_CLOCK_LINE.replace(" / ", " "), "write_clock / /",
+
+    "clock /", "clock 00 00 /", "clock / 31", "clock / " + CLOCK_LINE[11:], "clock 00 00 / " + CLOCK_LINE[11:], "clock 01 02 03 04 05 06 /", "clock_runs /",
+    "clock_runs 00 /", "clock_runs 00 07 EA 03 01 /", "clock_runs 00 07 EA 03 01 00 00 /", "clock_runs 07 EA 03 01 00 /", "clock_runs 00 EA 03 01 00 /",
+    "clock_runs 00 00 07 EA 03 01 00 / 31", "clock_runs" + " 00" * 11 + " /", "clock_runs" + " 00" * 600 + " /", "write_clock /",
+    "write_clock 0E 00 00 7F 01 00 00 /", "write_clock 0E 00 00 7F 01 00 00 00 /", "write_clock 0E 00 00 7F 01 00 00 00 00 00 /",
+    "write_clock 0E 00 00 7F 01 00 00 00 00 00 00 00 /", "write_clock 0E 00 00 7F 01 00 07 D0 00 00 00 00 / 00",
+    "write_clock" + " 00" * 10 + " /" + " 00" * 20, "write_clock" + " 00" * 12 + " /" + " 00" * 30,
+]
+
+# The longest lines, blanks before, between and behind the words, small letters, and groups without bytes.
+CLOCK_CALLS_SET_OTHERWISE = [
+    "clock 00 /", "  clock  00  /  ", "clock ff /", "clock Ff / 31", CLOCK_LINE.lower(), CLOCK_LINE.replace(" ", "  "), "   " + CLOCK_LINE + "   ",
+    "clock_runs 00 07 ea 03 01 00 /", CLOCK_RUNS_LINE.lower(), CLOCK_RUNS_LINE.replace(" ", "   "), "clock_runs 00 00 00 00 00 00 /",
+    WRITE_CLOCK_LINE.lower(), WRITE_CLOCK_LINE.replace(" ", "  "), "write_clock 0e 00 00 7f 01 00 00 00 00 00 00 /",
+    "write_clock 18 00 00 7F 01 00 00 00 00 00 00 /", "write_clock" + " 00" * 11 + " /", filled(CLOCK_LINE, 4095), filled(CLOCK_RUNS_LINE, 4095),
+    filled(WRITE_CLOCK_LINE, 4095), "clock 00 /" + " 30" * 1361, "clock_runs 00 07 EA 03 01 00 /" + " 20" * 1355,
+    "write_clock 0E 00 00 7F 01 00 00 00 00 00 00 /" + " 00" * 1350, filled("clocks /", 4095), filled("clock zz", 4095), filled("clock", 4095),
+]
+
+
+def no_clock_calls():
+    """Lines that are no call, between what the run carries; the last line is the source's second example."""
+    yield from CARRIED + CLOCK_NO_CALLS + CARRIED_SHOWN + CLOCK_CALLS_SET_OTHERWISE
+    yield runs_on(1, SUNDAY, 0, SOURCE_CLOCKS[1])
+
+
 KINDS = [
     ("bench cases of document 01", bench_cases),
     ("frames of source 002", source_frames),
@@ -4784,6 +5355,11 @@ KINDS = [
     ("filter plans (W-212)", filter_plans),
     ("filter plans of many filters and by chance (W-212)", crowded_filter_plans),
     ("lines that are no call of filter plans (W-212)", no_plan_calls),
+    ("texts of clocks (W-214)", clock_texts),
+    ("texts of clocks with one byte changed (W-214)", clocks_with_one_byte_changed),
+    ("clocks on a day (W-214)", clocks_on_days),
+    ("clocks written, there and back, and by chance (W-214)", clocks_written),
+    ("lines that are no call of clocks (W-214)", no_clock_calls),
 ]
 
 
@@ -4798,6 +5374,8 @@ def main(arguments):
         sys.stdout.buffer.write(b"".join(MARCH))
     elif arguments == ["wanted"]:
         sys.stdout.buffer.write(MARCH_WANTED.encode("ascii"))
+    elif arguments == ["clocks"]:
+        sys.stdout.buffer.write(CLOCKS_OF_A_SITE.encode("ascii"))
     else:
         # An empty line between the kinds; the last line ends with the input.
         calls = "\n\n".join("\n".join(kind()) for _, kind in KINDS)

@@ -999,6 +999,124 @@ def first_hidden(filters, events):
     return next((place for place, event in enumerate(events) if filters.hides(*event)), None)
 
 
+# Clocks at Domintell sites (document 02, W-214): "Read the legacy clock text of source document 000, section 4.5.b, from its time field on: time, two
+# hexadecimal weekday symbols, day/month/year with 00 for no restriction, and an offset for astronomical clocks, which may be negative."
+
+Clock = namedtuple("Clock", "time weekdays day month year offset")  # time: hour, minute, second; year: 0 to 99; offset: None where there is none
+Offset = namedtuple("Offset", "earlier time")  # earlier, or else later
+
+# "HH:MM:SS WD DD/MM/YY", and behind it a blank and "HH:MM:SS" or "-HH:MM:SS". d is a decimal digit, h one of the two weekday symbols, and every
+# other character itself. "Weekday symbols are capitals"; blanks for zeros are not taken: "The leading zero is always present for each field."
+CLOCK_FORM = b"dd:dd:dd hh dd/dd/dd"
+LATER_FORM = CLOCK_FORM + b" dd:dd:dd"
+EARLIER_FORM = CLOCK_FORM + b" -dd:dd:dd"
+DIGITS = b"0123456789"
+SYMBOLS = b"0123456789ABCDEF"
+
+HOUR = span(0, 23)
+MINUTE = SECOND = span(0, 59)
+CLOCK_DAY = span(0, 31)  # "00 for no restriction"
+CLOCK_MONTH = span(0, 12)
+CLOCK_YEAR = span(0, 99)
+YEARS = span(2000, 2099)  # "years mean 2000 to 2099"
+CENTURY = 2000
+
+WEEKDAY = span(0, 6)  # "0 to 6 from Sunday, as given"
+SWITCHED_OFF = 0x80  # "Bit 80 switches a clock off."
+
+# The Gregorian calendar.
+MONTH_DAYS = [31, 28, 31, 30, 31, 30, 31, 31, 30, 31, 30, 31]
+FEBRUARY = 2
+
+
+def is_leap(year):
+    return year % 400 == 0 or year % 4 == 0 and year % 100 != 0
+
+
+def days_in(year, month):
+    """How many days a month, 1 to 12, has."""
+    return MONTH_DAYS[month - 1] + (month == FEBRUARY and is_leap(year))
+
+
+def date_exists(year, month, day):
+    return 1 <= month <= len(MONTH_DAYS) and 1 <= day <= days_in(year, month)
+
+
+def has_form(text, form):
+    """Whether the text has this form, and nothing behind it."""
+    wanted = {ord("d"): DIGITS, ord("h"): SYMBOLS}
+    return len(text) == len(form) and all(byte in wanted.get(sign, [sign]) for byte, sign in zip(text, form))
+
+
+def is_time(time):
+    """Whether hour, minute and second are in their ranges."""
+    return all(value in place for value, place in zip(time, [HOUR, MINUTE, SECOND]))
+
+
+# "Hours reach 23, minutes and seconds 59, days 31, months 12, years mean 2000 to 2099, and -00:00:00 .. is out of range." An offset has the ranges of
+# a time. A clock's own date need not exist: one that no day has is read and written, and never runs.
+def is_in_range(clock):
+    """Whether all fields of a clock are in their ranges."""
+    if not is_time(clock.time) or clock.day not in CLOCK_DAY or clock.month not in CLOCK_MONTH or clock.year not in CLOCK_YEAR:
+        return False
+    return clock.offset is None or is_time(clock.offset.time) and not (clock.offset.earlier and clock.offset.time == (0, 0, 0))
+
+
+def time_in(text, place):
+    """Hour, minute and second of the text HH:MM:SS that begins at the place."""
+    return tuple(int(text[at:at + 2]) for at in range(place, place + 9, 3))
+
+
+# "An offset stands exactly where the clock is astronomical." "21 text not of this form, 22 a field out of range, in that order".
+def read_clock(astronomical, text):
+    """Reads the text of a clock."""
+    forms = [LATER_FORM, EARLIER_FORM] if astronomical else [CLOCK_FORM]
+    refuse(21, not any(has_form(text, form) for form in forms))
+    offset = None
+    if astronomical:
+        earlier = has_form(text, EARLIER_FORM)
+        offset = Offset(earlier, time_in(text, 22 if earlier else 21))
+    clock = Clock(time_in(text, 0), int(text[9:11], 16), int(text[12:14]), int(text[15:17]), int(text[18:20]), offset)
+    refuse(22, not is_in_range(clock))
+    return clock
+
+
+# "Write clocks back too, and get the same text." "Refusals: .. 22 .., then 8."
+def write_clock(clock, buffer):
+    """Writes the text of a clock into the lent buffer; gives the count."""
+    refuse(22, not is_in_range(clock))
+    written = "%02d:%02d:%02d %02X %02d/%02d/%02d" % (*clock.time, clock.weekdays, clock.day, clock.month, clock.year)
+    if clock.offset is not None:
+        written += " %s%02d:%02d:%02d" % ("-" if clock.offset.earlier else "", *clock.offset.time)
+    refuse(8, len(buffer) < len(written))
+    buffer[:len(written)] = written.encode("ascii")
+    return len(written)
+
+
+def seconds_of(time):
+    """The seconds from midnight to the time."""
+    hour, minute, second = time
+    return hour * 3600 + minute * 60 + second
+
+
+# "Given a date, its weekday .. and whether the clock is astronomical, say whether it runs that day and at which second from midnight; an offset may
+# carry it below 0 or past 86,399, and it is reported so." The restrictions are tested on the given date, wherever the offset carries the second, and the
+# weekday is not compared with the date. "A weekday over 6 or a given date that does not exist or lies outside those years is out of range", also where the
+# clock is switched off.
+def run_of_clock(astronomical, date, weekday, text):
+    """The second from midnight at which the clock runs on this date, year, month and day; None where it does not."""
+    clock = read_clock(astronomical, text)
+    year, month, day = date
+    refuse(22, weekday not in WEEKDAY or year not in YEARS or not date_exists(year, month, day))
+    restrictions = [(clock.day, day), (clock.month, month), (clock.year, year - CENTURY)]
+    if clock.weekdays & SWITCHED_OFF or not clock.weekdays >> weekday & 1 or any(named not in [0, given] for named, given in restrictions):
+        return None
+    second = seconds_of(clock.time)
+    if clock.offset is None:
+        return second
+    return second - seconds_of(clock.offset.time) if clock.offset.earlier else second + seconds_of(clock.offset.time)
+
+
 # The calls of docs/BENCH.md: words and groups
 
 LINE_MOST = 4095
@@ -1171,6 +1289,21 @@ def plan_fields(plan, wanted):
     return [0, "yes"] if hidden is None else [0, "hidden", hidden]
 
 
+def offset_fields(offset):
+    return ["absent"] if offset is None else ["earlier" if offset.earlier else "later", *offset.time]
+
+
+def clock_fields(flag, text):
+    clock = read_clock(flag[0] != 0, text)
+    return (["time", *clock.time, "weekdays", bytes([clock.weekdays]), "day", clock.day, "month", clock.month, "year", clock.year, "offset"]
+            + offset_fields(clock.offset))
+
+
+def clock_runs_fields(given, text):
+    second = run_of_clock(given[0] != 0, (high_first(given[1:3]), given[3], given[4]), given[5], text)
+    return ["idle"] if second is None else ["second", second]
+
+
 # The groups of the calls on the capture
 
 CAPTURE_BUFFER_MOST = 1300
@@ -1209,6 +1342,18 @@ def boundaries_of(group):
 def parts_of(group):
     """No part yet, of the corridor and the boundaries of these 23 bytes."""
     return Parts(corridor_of(group), boundaries_of(group))
+
+
+# The group of the call that writes a clock: "hour, minute, second, weekdays, day, month, year, kind, hour, minute, second". "Kind 00 is no offset (the
+# three behind it count for nothing), 01 later, every other byte earlier."
+
+CLOCK_SIZE = 11
+
+
+def clock_of(group):
+    """The clock of its 11 bytes."""
+    kind = group[7]
+    return Clock(tuple(group[:3]), *group[3:7], Offset(kind != 1, tuple(group[8:])) if kind != 0 else None)
 
 
 # "Reading a written frame gives its fields back; writing a frame that was read gives its bytes back": a relay reads a
@@ -1259,7 +1404,7 @@ REFUSAL_NAMES = {
     0: "OK", 1: "TOO_SHORT", 2: "BAD_LEAD", 3: "UNKNOWN_COMMAND", 4: "BAD_LENGTH_BYTE", 5: "BAD_LENGTH", 6: "BAD_SUM",
     7: "BAD_ARGUMENT", 8: "NO_ROOM", 9: "NO_NUMBER_FREE", 10: "NOT_AWAITED", 11: "BAD_DATA_SIZE", 12: "NONE_THERE",
     13: "OUTSIDE_PROFILE", 14: "UNKNOWN_VERSION", 15: "BAD_RECORD", 16: "EARLIER_TIME", 17: "RETIRED", 18: "NOT_A_FILTER",
-    19: "FILTERS_FULL", 20: "NOT_RISING",
+    19: "FILTERS_FULL", 20: "NOT_RISING", 21: "NOT_A_CLOCK", 22: "OUT_OF_RANGE",
 }
 
 KIND_NAMES = [
@@ -1390,9 +1535,16 @@ RUN_CALLS = {
     "quiet": ([SOME], plain(lambda run: ["yes" if is_quiet(run) else "no"])),
 }
 
-# "Nothing is carried, and nothing carried is read."
+# "Nothing is carried, and nothing carried is read." So it is with the clocks.
 PLAN_CALLS = {
     "plan": ([SOME, SOME], lambda plan, wanted: text(plan_fields(plan, wanted))),
+}
+
+
+CLOCK_CALLS = {
+    "clock": ([exactly(1), SOME], plain(clock_fields)),
+    "clock_runs": ([exactly(6), SOME], plain(clock_runs_fields)),
+    "write_clock": ([exactly(CLOCK_SIZE), SOME], lent(lambda group, buffer: write_clock(clock_of(group), buffer))),
 }
 
 
@@ -1416,6 +1568,7 @@ class Bench:
         self.calls.update(self.capture_calls())
         self.calls.update(self.parts_calls())
         self.calls.update(PLAN_CALLS)
+        self.calls.update(CLOCK_CALLS)
         self.calls["help"] = ([exactly(0)], plain(lambda none: ["calls"] + list(self.calls)))
 
     def book_calls(self):

@@ -1,5 +1,5 @@
-"""Self-checks of the second program: what the documents state, asked of second/opinion.py, second/sheet.py, second/quiet.py, second/plan.py
-and second/changes.py.
+"""Self-checks of the second program: what the documents state, asked of second/opinion.py, second/sheet.py, second/quiet.py, second/plan.py,
+second/clock.py and second/changes.py.
 
     python3 second/selftest.py
 """
@@ -10,6 +10,7 @@ import datetime
 import functools
 import io
 import os
+import re
 import subprocess
 import sys
 import tempfile
@@ -17,6 +18,8 @@ import unittest
 
 import cases
 import changes
+import clock
+import clocks
 import opinion
 import plan
 import plans
@@ -92,6 +95,40 @@ def plan_of(count, *more):
     """The call whose plan adds so many filters, of gear 0, 1, .. with mask 0108, and then has these requests; type 3 of gear 0 is wanted."""
     filters = ["04 00 31 %02X FF 01 08 %02X" % (gear, 0xC3 ^ gear) for gear in range(count)]
     return " ".join(["plan", *filters, *more, "/ 00 FF 03"])
+
+
+def letters(text):
+    """The bytes of a text, in hexadecimal."""
+    return ["%02X" % byte for byte in text.encode("ascii")]
+
+
+def clock_call(name, head, text):
+    """The call of a clock's text behind the bytes of its first group."""
+    return " ".join([name, head, "/"] + letters(text))
+
+
+def clock_read(flag, text):
+    return clock_call("clock", flag, text)
+
+
+def clock_runs(flag, date, weekday, text):
+    """The date as in 2026-03-01, whether it exists or not."""
+    year, month, day = (int(number) for number in date.split("-"))
+    return clock_call("clock_runs", "%s %02X %02X %02X %02X %02X" % (flag, year // 256, year % 256, month, day, weekday), text)
+
+
+def clock_written(fields, size):
+    """The call that writes a clock of these bytes into so many bytes 00."""
+    return " ".join(["write_clock", *("%02X" % field for field in fields), "/"] + ["00"] * size)
+
+
+def written(text, size):
+    """The answer that has this text in front of so many bytes 00."""
+    return " ".join(["0 count", str(len(text)), "before"] + ["00"] * size + ["after"] + letters(text) + ["00"] * (size - len(text)))
+
+
+def not_written(number, size):
+    return " ".join([str(number), "before"] + ["00"] * size + ["after"] + ["00"] * size)
 
 
 NOTHING_IN_IT = "occupied 0 presses 0 holds 0 longest absent total 0 gaps 0"
@@ -820,6 +857,117 @@ STATED_LATER = [
     ("seasons_end", "14"),
     ("seasons " + CORRIDOR + " 00 00 00 00 00 00 00 01 00 00 00 02",
      four(NOTHING_IN_IT, NOTHING_IN_IT, NOTHING_IN_IT, "occupied 2 presses 0 holds 0 longest 4294967293 total 4294967293 gaps 1")),
+    # W-214: "time, two hexadecimal weekday symbols, day/month/year with 00 for no restriction, and an offset for astronomical clocks, which may be negative"
+    (clock_read("00", "14:00:00 7F 01/00/00"), "0 time 14 0 0 weekdays 7F day 1 month 0 year 0 offset absent"),
+    (clock_read("01", "20:38:49 7F 00/00/00 00:30:00"), "0 time 20 38 49 weekdays 7F day 0 month 0 year 0 offset later 0 30 0"),
+    (clock_read("FF", "07:14:23 41 00/00/00 -00:10:00"), "0 time 7 14 23 weekdays 41 day 0 month 0 year 0 offset earlier 0 10 0"),
+    (clock_read("00", "23:59:59 FF 31/12/99"), "0 time 23 59 59 weekdays FF day 31 month 12 year 99 offset absent"),
+    # "a flag byte: 00 is no .., every other byte is yes"; "an offset stands exactly where the clock is astronomical"
+    (clock_read("02", "20:38:49 7F 00/00/00 00:30:00"), "0 time 20 38 49 weekdays 7F day 0 month 0 year 0 offset later 0 30 0"),
+    (clock_read("00", "20:38:49 7F 00/00/00 00:30:00"), "21"),
+    (clock_read("01", "14:00:00 7F 01/00/00"), "21"),
+    (clock_read("01", ""), "21"),
+    (clock_read("00", ""), "21"),
+    # "weekday symbols are capitals"; "the leading zero is always present"; no other sign, and nothing behind the last field
+    (clock_read("00", "14:00:00 7f 01/00/00"), "21"),
+    (clock_read("00", " 4:00:00 7F 01/00/00"), "21"),
+    (clock_read("00", "14:00:00 7F  1/00/00"), "21"),
+    (clock_read("01", "20:38:49 7F 00/00/00 +00:30:00"), "21"),
+    (clock_read("01", "20:38:49 7F 00/00/00  0:30:00"), "21"),
+    (clock_read("01", "00:00:00 7F 00/00/00 -600"), "21"),
+    (clock_read("01", "08:05:00 7F 00/00/00 Clock[SUNRISE]"), "21"),
+    (clock_read("00", "14:00:00 7F 01/00/00\n"), "21"),
+    (clock_read("00", "CLK000001%K00:22:00 7F 00/05/09"), "21"),
+    (clock_read("00", "00:22:00 7F 00/05/09"), "0 time 0 22 0 weekdays 7F day 0 month 5 year 9 offset absent"),
+    # "hours reach 23, minutes and seconds 59, days 31, months 12": of the offset too
+    (clock_read("00", "24:00:00 7F 01/00/00"), "22"),
+    (clock_read("00", "23:60:00 7F 01/00/00"), "22"),
+    (clock_read("00", "23:59:60 7F 01/00/00"), "22"),
+    (clock_read("00", "23:59:59 7F 32/00/00"), "22"),
+    (clock_read("00", "23:59:59 7F 31/13/00"), "22"),
+    (clock_read("01", "00:00:00 7F 00/00/00 24:00:00"), "22"),
+    (clock_read("01", "00:00:00 7F 00/00/00 -24:00:00"), "22"),
+    (clock_read("01", "00:00:00 7F 00/00/00 -23:60:00"), "22"),
+    (clock_read("01", "00:00:00 7F 00/00/00 23:59:60"), "22"),
+    (clock_read("01", "00:00:00 7F 00/00/00 -23:59:59"), "0 time 0 0 0 weekdays 7F day 0 month 0 year 0 offset earlier 23 59 59"),
+    (clock_read("01", "00:00:00 7F 00/00/00 -00:00:00"), "22"),
+    (clock_read("01", "00:00:00 7F 00/00/00 00:00:00"), "0 time 0 0 0 weekdays 7F day 0 month 0 year 0 offset later 0 0 0"),
+    # a clock's own date need not exist
+    (clock_read("00", "06:07:08 7F 31/02/00"), "0 time 6 7 8 weekdays 7F day 31 month 2 year 0 offset absent"),
+    (clock_read("00", "06:07:08 7F 29/02/23"), "0 time 6 7 8 weekdays 7F day 29 month 2 year 23 offset absent"),
+    (clock_runs("00", "2024-02-29", 4, "06:07:08 7F 31/02/00"), "0 idle"),
+    (clock_runs("00", "2024-03-02", 6, "06:07:08 7F 31/02/00"), "0 idle"),
+    # "21 text not of this form, 22 a field out of range, in that order"
+    (clock_read("00", "24:00:00 7f 01/00/00"), "21"),
+    (clock_read("00", "24:00:00 7F 01/00/00 "), "21"),
+    (clock_read("00", "24:00:00 7F 01/00/00 -00:00:00"), "21"),
+    (clock_runs("00", "2026-02-29", 7, "14:00:00 7f 01/00/00"), "21"),
+    (clock_runs("00", "2026-02-29", 7, "24:00:00 7F 01/00/00"), "22"),
+    # "whether it runs that day and at which second from midnight"; "arithmetic decides, 21:08:49"
+    (clock_runs("00", "2026-03-01", 0, "14:00:00 7F 01/00/00"), "0 second 50400"),
+    (clock_runs("01", "2026-03-01", 0, "20:38:49 7F 00/00/00 00:30:00"), "0 second 76129"),
+    (clock_runs("01", "2026-03-01", 0, "07:14:23 41 00/00/00 -00:10:00"), "0 second 25463"),
+    (clock_runs("00", "2026-03-01", 0, "14:00:00 7F 02/00/00"), "0 idle"),
+    (clock_runs("01", "2026-03-02", 1, "07:14:23 41 00/00/00 -00:10:00"), "0 idle"),
+    # "an offset may carry it below 0 or past 86,399, and it is reported so"; the restriction is that of the date given
+    (clock_runs("01", "2026-03-01", 0, "00:05:00 7F 00/00/00 -00:10:00"), "0 second -300"),
+    (clock_runs("01", "2026-03-01", 0, "00:05:00 7F 01/03/26 -00:05:00"), "0 second 0"),
+    (clock_runs("01", "2026-03-01", 0, "00:05:00 7F 01/03/26 -00:05:01"), "0 second -1"),
+    (clock_runs("01", "2026-03-01", 0, "00:05:00 7F 28/02/26 -00:05:01"), "0 idle"),
+    (clock_runs("01", "2026-03-01", 0, "00:00:00 7F 00/00/00 -23:59:59"), "0 second -86399"),
+    (clock_runs("01", "2026-03-01", 0, "23:59:59 7F 00/00/00 00:00:00"), "0 second 86399"),
+    (clock_runs("01", "2026-03-01", 0, "23:59:59 7F 01/03/26 00:00:01"), "0 second 86400"),
+    (clock_runs("01", "2026-03-01", 0, "23:59:59 7F 02/03/26 00:00:01"), "0 idle"),
+    (clock_runs("01", "2026-03-01", 0, "23:59:59 7F 00/00/00 23:59:59"), "0 second 172798"),
+    # "bit 80 switches a clock off", also with other bits; 00 is no weekday
+    (clock_runs("00", "2026-03-01", 0, "14:00:00 FF 00/00/00"), "0 idle"),
+    (clock_runs("00", "2026-03-01", 0, "14:00:00 81 00/00/00"), "0 idle"),
+    (clock_runs("00", "2026-03-01", 0, "14:00:00 00 00/00/00"), "0 idle"),
+    # weekdays "0 to 6 from Sunday, as given": 1 March 2026 is a Sunday, and is not asked
+    (clock_runs("00", "2026-03-01", 0, "14:00:00 01 00/00/00"), "0 second 50400"),
+    (clock_runs("00", "2026-03-01", 1, "14:00:00 01 00/00/00"), "0 idle"),
+    (clock_runs("00", "2026-03-01", 1, "14:00:00 02 00/00/00"), "0 second 50400"),
+    (clock_runs("00", "2026-03-01", 6, "14:00:00 40 00/00/00"), "0 second 50400"),
+    # "a weekday over 6 or a given date that does not exist or lies outside those years is out of range", of a clock switched off too
+    (clock_runs("00", "2026-03-01", 7, "14:00:00 7F 00/00/00"), "22"),
+    (clock_runs("00", "2026-03-01", 7, "14:00:00 FF 00/00/00"), "22"),
+    (clock_runs("00", "2026-02-29", 0, "14:00:00 7F 00/00/00"), "22"),
+    (clock_runs("00", "2026-02-29", 0, "14:00:00 80 00/00/00"), "22"),
+    (clock_runs("00", "2024-02-29", 0, "14:00:00 7F 00/00/00"), "0 second 50400"),
+    (clock_runs("00", "2000-02-29", 0, "14:00:00 7F 29/02/00"), "0 second 50400"),
+    (clock_runs("00", "2026-04-31", 0, "14:00:00 7F 00/00/00"), "22"),
+    (clock_runs("00", "2026-00-01", 0, "14:00:00 7F 00/00/00"), "22"),
+    (clock_runs("00", "2026-13-01", 0, "14:00:00 7F 00/00/00"), "22"),
+    (clock_runs("00", "2026-01-00", 0, "14:00:00 7F 00/00/00"), "22"),
+    (clock_runs("00", "1999-12-31", 5, "14:00:00 7F 00/00/00"), "22"),
+    (clock_runs("00", "2000-01-01", 6, "14:00:00 7F 00/00/00"), "0 second 50400"),
+    (clock_runs("00", "2099-12-31", 4, "14:00:00 7F 00/00/99"), "0 second 50400"),
+    (clock_runs("00", "2100-01-01", 5, "14:00:00 7F 00/00/00"), "22"),
+    # the year 00 is no restriction, and so 2000 cannot be named
+    (clock_runs("00", "2026-01-01", 4, "14:00:00 7F 00/00/00"), "0 second 50400"),
+    (clock_runs("00", "2000-01-01", 6, "14:00:00 7F 00/00/01"), "0 idle"),
+    (clock_runs("00", "2023-10-05", 4, "14:00:00 7F 00/10/23"), "0 second 50400"),
+    (clock_runs("00", "2024-10-05", 6, "14:00:00 7F 00/10/23"), "0 idle"),
+    (clock_runs("00", "2023-11-05", 0, "14:00:00 7F 00/10/23"), "0 idle"),
+    # "write clocks back too, and get the same text"; kind 00, 01 and every other
+    (clock_written([14, 0, 0, 0x7F, 1, 0, 0, 0, 99, 99, 99], 22), written("14:00:00 7F 01/00/00", 22)),
+    (clock_written([20, 38, 49, 0x7F, 0, 0, 0, 1, 0, 30, 0], 29), written("20:38:49 7F 00/00/00 00:30:00", 29)),
+    (clock_written([7, 14, 23, 0x41, 0, 0, 0, 2, 0, 10, 0], 30), written("07:14:23 41 00/00/00 -00:10:00", 30)),
+    (clock_written([7, 14, 23, 0xAB, 31, 2, 99, 255, 0, 10, 0], 31), written("07:14:23 AB 31/02/99 -00:10:00", 31)),
+    (clock_written([0, 0, 0, 0, 0, 0, 0, 1, 0, 0, 0], 29), written("00:00:00 00 00/00/00 00:00:00", 29)),
+    # "22 a field out of range .., then 8"
+    (clock_written([0, 0, 0, 0, 0, 0, 0, 2, 0, 0, 0], 30), not_written(22, 30)),
+    (clock_written([24, 0, 0, 0, 0, 0, 0, 0, 0, 0, 0], 20), not_written(22, 20)),
+    (clock_written([0, 0, 0, 0, 32, 0, 0, 0, 0, 0, 0], 0), not_written(22, 0)),
+    (clock_written([0, 0, 0, 0, 0, 0, 100, 0, 0, 0, 0], 20), not_written(22, 20)),
+    (clock_written([0, 0, 0, 0, 0, 0, 0, 1, 24, 0, 0], 5), not_written(22, 5)),
+    (clock_written([14, 0, 0, 0x7F, 1, 0, 0, 0, 0, 0, 0], 19), not_written(8, 19)),
+    (clock_written([20, 38, 49, 0x7F, 0, 0, 0, 1, 0, 30, 0], 28), not_written(8, 28)),
+    (clock_written([7, 14, 23, 0x41, 0, 0, 0, 2, 0, 10, 0], 29), not_written(8, 29)),
+    ("name 00 15 / FF FF FF FF FF FF FF FF FF FF FF", "0 count 11 before FF FF FF FF FF FF FF FF FF FF FF after 4E 4F 54 5F 41 5F 43 4C 4F 43 4B"),
+    ("name 00 16 / FF FF FF FF FF FF FF FF FF FF FF FF",
+     "0 count 12 before FF FF FF FF FF FF FF FF FF FF FF FF after 4F 55 54 5F 4F 46 5F 52 41 4E 47 45"),
+    ("name 00 17 /", "7 before after"),
 ]
 
 # docs/BENCH.md, "The program quiet": a run, and the line by the row of its item.
@@ -896,6 +1044,69 @@ STATED_FAULTS = [
     (["/nowhere/plan", "/nowhere/wanted"], "/nowhere/plan: No such file or directory"),
     (["/", "/nowhere/wanted"], "reading /: Is a directory"),
     (["-", "/nowhere/wanted"], "/nowhere/wanted: No such file or directory"),
+]
+
+# docs/CLOCK.md: a date, the clocks, the rows and what is said, by the page's rules.
+NOT_A_CLOCK = "21 NOT_A_CLOCK: a clock is HH:MM:SS WD DD/MM/YY, WD in capitals, and where it is astronomical behind a blank HH:MM:SS or -HH:MM:SS\n"
+OUT_OF_RANGE = "22 OUT_OF_RANGE: hours reach 23, minutes and seconds 59, days 31 and months 12, and no offset is -00:00:00\n"
+ROWS = "line,answer,second,at,clock\n"
+STATED_CLOCKS = [
+    ("2026-03-01", "", ROWS, ""),
+    ("2026-03-01", "\n\r\n\n", ROWS, ""),
+    ("2026-03-01", "20:38:49 7F 00/00/00 00:30:00\n", ROWS + "1,runs,76129,2026-03-01 21:08:49,20:38:49 7F 00/00/00 00:30:00\n", ""),
+    ("2026-03-02", "20:38:49 7F 00/00/00 00:30:00", ROWS + "1,runs,76129,2026-03-02 21:08:49,20:38:49 7F 00/00/00 00:30:00\n", ""),
+    # a carriage return is no part of a line, and lines that are passed over count
+    ("2026-03-01", "\n14:00:00 7F 01/00/00\r\n\r\n14:00:00 FF 00/00/00\r",
+     ROWS + "2,runs,50400,2026-03-01 14:00:00,14:00:00 7F 01/00/00\n4,idle,,,14:00:00 FF 00/00/00\n", ""),
+    ("2026-03-01", "14:00:00 7F 01/00/00\r\r\n", ROWS + "1,21 NOT_A_CLOCK,,,\n", "clock: line 1: " + NOT_A_CLOCK),
+    # the day before, and the day after: of a month, of a leap year, of a year, and outside of 2000 to 2099
+    ("2026-03-01", "00:05:00 7F 00/00/00 -00:10:00\n", ROWS + "1,runs,-300,2026-02-28 23:55:00,00:05:00 7F 00/00/00 -00:10:00\n", ""),
+    ("2024-03-01", "00:05:00 7F 00/00/00 -00:10:00\n", ROWS + "1,runs,-300,2024-02-29 23:55:00,00:05:00 7F 00/00/00 -00:10:00\n", ""),
+    ("2000-01-01", "00:00:00 7F 00/00/00 -00:00:01\n", ROWS + "1,runs,-1,1999-12-31 23:59:59,00:00:00 7F 00/00/00 -00:00:01\n", ""),
+    ("2024-02-28", "23:59:59 7F 00/00/00 23:59:59\n", ROWS + "1,runs,172798,2024-02-29 23:59:58,23:59:59 7F 00/00/00 23:59:59\n", ""),
+    ("2023-02-28", "23:59:59 7F 00/00/00 00:00:01\n", ROWS + "1,runs,86400,2023-03-01 00:00:00,23:59:59 7F 00/00/00 00:00:01\n", ""),
+    ("2099-12-31", "23:59:59 7F 00/00/00 00:00:01\n", ROWS + "1,runs,86400,2100-01-01 00:00:00,23:59:59 7F 00/00/00 00:00:01\n", ""),
+    # "its weekday is reckoned from it": a Sunday, a Monday, a Saturday and a Thursday
+    ("2026-03-01", "14:00:00 01 00/00/00\n14:00:00 7E 00/00/00\n",
+     ROWS + "1,runs,50400,2026-03-01 14:00:00,14:00:00 01 00/00/00\n2,idle,,,14:00:00 7E 00/00/00\n", ""),
+    ("2026-03-02", "14:00:00 02 00/00/00\n14:00:00 7D 00/00/00\n",
+     ROWS + "1,runs,50400,2026-03-02 14:00:00,14:00:00 02 00/00/00\n2,idle,,,14:00:00 7D 00/00/00\n", ""),
+    ("2000-01-01", "14:00:00 40 00/00/00\n14:00:00 BF 00/00/00\n",
+     ROWS + "1,runs,50400,2000-01-01 14:00:00,14:00:00 40 00/00/00\n2,idle,,,14:00:00 BF 00/00/00\n", ""),
+    ("2099-12-31", "14:00:00 10 31/12/99\n14:00:00 10 31/12/98\n",
+     ROWS + "1,runs,50400,2099-12-31 14:00:00,14:00:00 10 31/12/99\n2,idle,,,14:00:00 10 31/12/98\n", ""),
+    # refused lines have rows too, and what is said of them their numbers
+    ("2026-03-01", "14:00:00 7f 01/00/00\n\n24:00:00 7F 00/00/00\nx,y\n00:00:00 7F 00/00/00 -00:00:00\n14:00:00 7F 00/00/00 ",
+     ROWS + "1,21 NOT_A_CLOCK,,,\n3,22 OUT_OF_RANGE,,,\n4,21 NOT_A_CLOCK,,,\n5,22 OUT_OF_RANGE,,,\n6,21 NOT_A_CLOCK,,,\n",
+     "clock: line 1: " + NOT_A_CLOCK + "clock: line 3: " + OUT_OF_RANGE + "clock: line 4: " + NOT_A_CLOCK + "clock: line 5: " + OUT_OF_RANGE
+     + "clock: line 6: " + NOT_A_CLOCK),
+]
+
+# Arguments that get no rows; standard input is not asked for.
+ONE_WANTED = "1 argument is wanted, a date as in 2026-03-02; clock --help says more"
+STATED_DATE_FAULTS = [
+    (["--date"], "no such option: --date"),
+    (["--"], "no such option: --"),
+    (["--date", "2026-03-01", "x"], "no such option: --date"),
+    (["--" + "d" * 4093], "no such option: --" + "d" * 4093),
+    (["--" + "d" * 4094], "the argument is too long"),
+    (["--" + "d" * 4094, "2026-03-01"], ONE_WANTED),
+    (["2026-03-01", "2026-03-01"], ONE_WANTED),
+    (["2026-03-01", "--help"], ONE_WANTED),
+    (["2" * 4096, "2026-03-01"], ONE_WANTED),
+    (["2" * 4096], "the argument is too long"),
+    (["2" * 4095], "DATE is not a date as in 2026-03-02: " + "2" * 4095),
+    ([""], "DATE is not a date as in 2026-03-02: "),
+    (["-"], "DATE is not a date as in 2026-03-02: -"),
+    (["2026-3-1"], "DATE is not a date as in 2026-03-02: 2026-3-1"),
+    (["2026-03-01\n"], "DATE is not a date as in 2026-03-02: 2026-03-01\n"),
+    (["2026-02-29"], "DATE is a date that does not exist: 2026-02-29"),
+    (["2100-02-29"], "DATE is a date that does not exist: 2100-02-29"),
+    (["1999-02-29"], "DATE is a date that does not exist: 1999-02-29"),
+    (["0000-00-00"], "DATE is a date that does not exist: 0000-00-00"),
+    (["1999-12-31"], "DATE is a date before 2000-01-01 or behind 2099-12-31: 1999-12-31"),
+    (["2100-01-01"], "DATE is a date before 2000-01-01 or behind 2099-12-31: 2100-01-01"),
+    (["0000-02-29"], "DATE is a date before 2000-01-01 or behind 2099-12-31: 0000-02-29"),
 ]
 
 # The commands inside the quiet profile: those of document 01's table but 08, 31, 33, 40 and A0 to A9.
@@ -1115,6 +1326,64 @@ def plan_printed(words, files):
                 file.write(run)
         named = [os.fsencode(os.path.join(folder, word) if word in files else word) for word in words]
         return plan.printed(named, lambda: b"")
+
+
+@functools.lru_cache(maxsize=None)
+def asked_clocks():
+    """The calls of the cases of clocks that have their groups: the name, both groups, and the line."""
+    asked = [line for kind in [cases.clock_texts, cases.clocks_with_one_byte_changed, cases.clocks_on_days, cases.clocks_written] for line in kind()]
+    asked = [line for line in asked if line.split(" ")[0] in ["clock", "clock_runs", "write_clock"]]
+    groups = [line.split(" ", 1)[1].split("/") for line in asked]
+    return [(line.split(" ")[0], bytes.fromhex(head), bytes.fromhex(text), line) for line, (head, text) in zip(asked, groups)]
+
+
+TEXT_OF_CLOCK = re.compile(rb"(\d\d):(\d\d):(\d\d) ([0-9A-F]{2}) (\d\d)/(\d\d)/(\d\d)(?: (-?)(\d\d):(\d\d):(\d\d))?", re.ASCII)
+
+
+def told_by_pattern(astronomical, text):
+    """The number that a text gets and, where it is 0, the time, the weekdays, day, month and year, and the offset in seconds, None where there is none: by
+    a pattern, and by what a clock of the day can show."""
+    match = TEXT_OF_CLOCK.fullmatch(text)
+    if not match or (match.group(9) is not None) != astronomical:
+        return 21, None
+    hour, minute, second, day, month, year = (int(match.group(place)) for place in [1, 2, 3, 5, 6, 7])
+    offset = None
+    try:
+        time = datetime.time(hour, minute, second)
+        if astronomical:
+            span = datetime.time(*(int(part) for part in match.groups()[8:]))
+            offset = span.hour * 3600 + span.minute * 60 + span.second
+            if match.group(8):
+                offset = -offset
+    except ValueError:
+        return 22, None
+    if day > 31 or month > 12 or astronomical and match.group(8) and offset == 0:
+        return 22, None
+    return 0, (time, int(match.group(4), 16), day, month, year, offset)
+
+
+def told_of_day(astronomical, year, month, day, weekday, text):
+    """The answer to `clock_runs`, by that pattern and the calendar of the library."""
+    number, told = told_by_pattern(astronomical, text)
+    if number:
+        return str(number)
+    try:
+        date = datetime.date(year, month, day)
+    except ValueError:
+        return "22"
+    if not 2000 <= year <= 2099 or weekday > 6:
+        return "22"
+    time, weekdays, *named, offset = told
+    fits = all(name in ["00", part] for name, part in zip(("%02d" % name for name in named), date.strftime("%d %m %y").split(" ")))
+    if not fits or weekdays > 127 or weekdays % 2 ** (weekday + 1) < 2 ** weekday:
+        return "0 idle"
+    moment = datetime.datetime(2000, 1, 2, time.hour, time.minute, time.second) + datetime.timedelta(seconds=offset or 0)
+    return "0 second %d" % (moment - datetime.datetime(2000, 1, 2)).total_seconds()
+
+
+def clock_printed(words, given=None):
+    """What the program clock prints, where standard input has these bytes; where it has none, it must not be asked."""
+    return clock.printed([os.fsencode(word) for word in words], lambda: given)
 
 
 YEAR = os.path.join(os.path.dirname(os.path.abspath(__file__)), os.pardir, "bench", "year")
@@ -2064,6 +2333,158 @@ class SelfTest(unittest.TestCase):
         numbers = {opinion.filters_left(b"".join(requests))[1][0] for _, requests in plans.bad_plans()}
         self.assertEqual(numbers, {*range(1, 8), 18, 19})
         self.assertFalse([name for name, requests, _ in plans.good_plans() if opinion.filters_left(b"".join(requests))[1]])
+
+    def test_clocks_by_pattern(self):
+        bench, seen = opinion.Bench(), set()
+        for name, head, text, line in asked_clocks():
+            if name == "write_clock":
+                continue
+            answer = bench.answer(line.encode("ascii"))
+            if name == "clock":
+                number, told = told_by_pattern(head[0] != 0, text)
+                self.assertEqual(answer.split(" ")[0], str(number), line)
+                if number == 0:
+                    time, weekdays, day, month, year, offset = told
+                    words = "0 time %d %d %d weekdays %02X day %d month %d year %d offset " % (time.hour, time.minute, time.second, weekdays, day, month, year)
+                    if offset is None:
+                        words += "absent"
+                    else:
+                        words += "%s %d %d %d" % ("earlier" if offset < 0 else "later", abs(offset) // 3600, abs(offset) // 60 % 60, abs(offset) % 60)
+                    self.assertEqual(answer, words, line)
+            else:
+                self.assertEqual(answer, told_of_day(head[0] != 0, 256 * head[1] + head[2], *head[3:], text), line)
+            seen.add(name + " " + " ".join(answer.split(" ")[:2 if name == "clock_runs" else 1]))
+        self.assertEqual(seen, {"clock 0", "clock 21", "clock 22", "clock_runs 0 second", "clock_runs 0 idle", "clock_runs 21", "clock_runs 22"})
+
+    def test_clocks_there_and_back(self):
+        texts, fields = set(), set()
+        for name, head, text, _ in asked_clocks():
+            if name == "write_clock":
+                fields.add(head)
+            else:
+                texts.add(text)
+        # "write clocks back too, and get the same text": of every text that is read, into just its bytes, and none of one byte less
+        read = 0
+        for text in texts:
+            number, found = answered(opinion.read_clock, len(text) > 20, text)
+            if number == 0:
+                read += 1
+                buffer = bytearray(len(text) + 2)
+                self.assertEqual((opinion.write_clock(found, buffer), bytes(buffer)), (len(text), text + bytes(2)))
+                self.assertEqual(answered(opinion.write_clock, found, bytearray(len(text) - 1))[0], 8)
+                # and no text is read as both kinds
+                self.assertEqual(answered(opinion.read_clock, len(text) <= 20, text)[0], 21)
+        self.assertGreater(read, 1500)
+        # of every clock that is written, the text is read as that clock
+        for head in fields:
+            buffer = bytearray(30)
+            number, count = answered(opinion.write_clock, opinion.clock_of(head), buffer)
+            if number == 0:
+                self.assertEqual(opinion.read_clock(head[7] != 0, bytes(buffer[:count])), opinion.clock_of(head))
+            else:
+                self.assertEqual((number, buffer), (22, bytearray(30)))
+
+    def test_every_time_and_offset(self):
+        # later and earlier: "+ 30 min" of 20:38:49 is 21:08:49, and so is each of the others by arithmetic
+        for offset in range(0, 86400, 61):
+            words = "%02d:%02d:%02d" % (offset // 3600, offset // 60 % 60, offset % 60)
+            for sign, second in [("", 43200 + offset), ("-", 43200 - offset)]:
+                text = ("12:00:00 7F 00/00/00 " + sign + words).encode("ascii")
+                if sign and offset == 0:
+                    self.assertEqual(answered(opinion.run_of_clock, True, (2026, 3, 1), 0, text), (22, None))
+                else:
+                    self.assertEqual(opinion.run_of_clock(True, (2026, 3, 1), 0, text), second)
+            self.assertEqual(opinion.run_of_clock(False, (2026, 3, 1), 0, words.encode("ascii") + b" 01 00/00/00"), offset)
+
+    def test_calendar(self):
+        days, date = [], datetime.date(2000, 1, 1)
+        while date.year < 2100:
+            days.append((date.year, date.month, date.day))
+            date += datetime.timedelta(days=1)
+        self.assertEqual(len(days), 36525)
+        found = [(year, month, day) for year in range(2000, 2100) for month in range(14) for day in range(256) if opinion.date_exists(year, month, day)]
+        self.assertEqual(found, days)
+        self.assertFalse([month for month in range(13, 256) if opinion.date_exists(2024, month, 1)])
+        # weekdays, 0 to 6 from Sunday, and the days beside each
+        reckoned = [clock.weekday_of(day) for day in days]
+        self.assertEqual(reckoned, [datetime.date(*day).isoweekday() % 7 for day in days])
+        self.assertEqual(reckoned, [(6 + place) % 7 for place in range(36525)])
+        self.assertEqual([clock.day_after(day) for day in days], days[1:] + [(2100, 1, 1)])
+        self.assertEqual([clock.day_before(day) for day in days], [(1999, 12, 31)] + days[:-1])
+        for year in list(range(1, 2500)) + [4000, 9999]:
+            self.assertEqual(opinion.is_leap(year), datetime.date(year, 3, 1) - datetime.date(year, 2, 28) == datetime.timedelta(days=2))
+        self.assertTrue(opinion.is_leap(0))
+
+    def test_weeks_of_clocks(self):
+        # a clock of one weekday runs every seventh day, one of all every day, and one that is switched off on none
+        days = [(2024, month, day) for month in range(1, 13) for day in range(1, 32) if opinion.date_exists(2024, month, day)]
+        for weekdays in [1, 8, 64, 0x7F, 0x80, 0xFF, 0]:
+            text = b"06:07:08 %02X 00/00/00" % weekdays
+            ran = [place for place, day in enumerate(days) if opinion.run_of_clock(False, day, clock.weekday_of(day), text) is not None]
+            self.assertEqual(len(ran), {1: 52, 8: 52, 64: 52, 0x7F: 366}.get(weekdays, 0))
+        # restricted to a day of the month, to a month, to both, and to one that no year has
+        for date, count in [("01/00/00", 12), ("31/00/00", 7), ("30/00/00", 11), ("29/00/00", 12), ("00/02/00", 29), ("29/02/00", 1), ("29/02/24", 1),
+                            ("29/02/23", 0), ("30/02/00", 0), ("00/00/24", 366), ("00/00/23", 0)]:
+            ran = [day for day in days if opinion.run_of_clock(False, day, 0, b"06:07:08 7F " + date.encode("ascii")) is not None]
+            self.assertEqual(len(ran), count, date)
+
+    def test_calls_of_clocks(self):
+        self.assertEqual(opinion.Bench().answer(b"help").split(" ")[-5:], ["plan", "clock", "clock_runs", "write_clock", "help"])
+        self.assertEqual([number for number in range(256) if number in opinion.REFUSAL_NAMES], list(range(23)))
+
+    def test_clocks_of_the_page(self):
+        for date, text, rows, said in STATED_CLOCKS:
+            self.assertEqual(clock_printed([date], text.encode("ascii")), (rows.encode("ascii"), said.encode("ascii")))
+        for words, line in STATED_DATE_FAULTS:
+            self.assertEqual(clock_printed(words), (b"", b"clock: " + line.encode("ascii") + b"\n"))
+        out, said = clock_printed([])
+        self.assertEqual((out, said.split(b"\n")[0]), (b"", b"Usage: clock DATE"))
+        self.assertEqual(clock_printed(["--help", "2026-03-01"]), (out, said))
+        self.assertEqual(clock_printed(["2026-03-01"], b"\n" * 1048576), (ROWS.encode("ascii"), b""))
+        self.assertEqual(clock_printed(["2026-03-01"], b"\n" * 1048577), (b"", b"clock: standard input has more than 1048576 bytes\n"))
+        # every `at` is the second counted from the date's midnight
+        for date in ["2000-01-01", "2024-02-29", "2024-03-01", "2026-12-31", "2099-12-31"]:
+            midnight = datetime.datetime.strptime(date, "%Y-%m-%d")
+            for second in list(range(-86399, 172799, 997)) + [-1, 0, 1, 86399, 86400, 86401, 172798]:
+                moment = (midnight + datetime.timedelta(seconds=second)).strftime("%Y-%m-%d %H:%M:%S")
+                self.assertEqual(clock.at_text(tuple(int(part) for part in date.split("-")), second), moment)
+
+    def test_clocks_of_runs(self):
+        runs = list(clocks.runs())
+        sizes = [len(run.given) for run in runs if isinstance(run.given, bytes)]
+        self.assertTrue(sizes.count(1048576) > 1 and sizes.count(1048577) > 1)
+        answers, faults = set(), set()
+        for run in runs:
+            out, said = clocks.expected(run)
+            answers.update(row.split(b",")[1] for row in out[:100000].split(b"\n")[1:-1])
+            if not out:
+                faults.add(said.split(b": ")[1].rstrip(b"\n"))
+            # where it cannot be written, nothing else is said
+            self.assertFalse(run.full and said.count(b"\n") > 1)
+        self.assertEqual(answers, {b"runs", b"idle", b"21 NOT_A_CLOCK", b"22 OUT_OF_RANGE"})
+        self.assertEqual(faults, {b"no such option", ONE_WANTED.encode("ascii"), b"the argument is too long", b"DATE is not a date as in 2026-03-02",
+                                  b"DATE is a date that does not exist",
+                                  b"DATE is a date before 2000-01-01 or behind 2099-12-31", b"reading standard input failed",
+                                  b"standard input has more than 1048576 bytes",
+                                  b"writing standard output failed"})
+
+    def test_cases_of_clocks(self):
+        asked = {name: [call[1:3] for call in asked_clocks() if call[0] == name] for name in ["clock", "clock_runs", "write_clock"]}
+        lengths = {len(text) for _, text in asked["clock"]}
+        self.assertLessEqual(set(range(41)), lengths)
+        self.assertEqual({head[0] for head, _ in asked["clock"] + asked["clock_runs"]}, set(range(256)))
+        texts = {text for _, text in asked["clock"]}
+        for text in (text.encode("ascii") for text in cases.SOURCE_CLOCKS):
+            self.assertLessEqual({cases.replaced(text, place, value) for place in range(len(text)) for value in range(256)}, texts)
+        dates = {(256 * head[1] + head[2], head[3], head[4]) for head, _ in asked["clock_runs"]}
+        self.assertLessEqual({(year, month, day) for year in [2023, 2024] for month in range(14) for day in range(33)}, dates)
+        self.assertLessEqual({(year, 2, 29) for year in [0, 65535, *range(1998, 2102)]}, dates)
+        days = {(text[9:11], head[5]) for head, text in asked["clock_runs"] if head[0] == 0 and len(text) == 20}
+        self.assertLessEqual({(b"%02X" % (1 << bit), weekday) for bit in range(8) for weekday in [*range(9), 255]}, days)
+        seconds = {answered(opinion.clock_runs_fields, *given)[1][-1] for given in asked["clock_runs"] if answered(opinion.clock_runs_fields, *given)[0] == 0}
+        self.assertLessEqual({"idle", -86399, -1, 0, 1, 86399, 86400, 172798}, seconds)
+        sizes = {(head[7] and min(head[7], 2), len(buffer)) for head, buffer in asked["write_clock"]}
+        self.assertLessEqual({(kind, size) for kind in range(3) for size in range(35)}, sizes)
 
     def test_boundaries_that_do_not_rise(self):
         capture = empty_capture(1, 30)

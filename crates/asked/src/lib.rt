@@ -1,6 +1,6 @@
 // What the words of a command line ask for: a number, a MAC address, a boundary between two seasons (crate options: an option). It leans on event for a MAC
 // address, on calendar for the midnight of a date, on text for what digits say, on refusal for the words of a test. docs/SHEET.md, "Arguments";
-// crate plan_wanted asks it for numbers.
+// crate plan_wanted asks it for numbers, and crate clock_asked for a date.
 ghost use Prim.Native.Nat.{_≤_};
 ghost use mathlib.Core.Path.{_≡_};
 ghost use lib.ListN.{length};

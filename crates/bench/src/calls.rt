@@ -151,6 +151,7 @@ fn write(n: usize, head: &[u8], data: &[u8], buffer: &mut [u8]) -> Wrote {
         0x75 => names::name(a, b, buffer),
         0x76 => relay::event(Layout::Two, head, buffer),
         0x77 | 0x78 | 0x79 | 0x7C | 0x7D | 0x7E => write_colour(n, head, buffer),
+        0x7F => clock_write::write(bench_clock::clock_in(head), buffer),
         0x80 => writers::reply(a, b, data, buffer),
         0x81 => write_event(Layout::Three, Mac(a, b, c, d, e, f), head, data, buffer),
         0x82 => frame::write(head, data, buffer),
@@ -268,6 +269,10 @@ fn plain(n: usize, s: &[u8], t: &[u8], u: &[u8], out: &mut [u8], at: usize) -> u
         9 => bench_datagrams::say(out, at, read(n, s)),
         11 => bench_calls::help(out, at),
         14 => bench_plan::say(out, at, filter_plan::check(s, t)),
+        15 => match n {
+            0xF0 => bench_clock::clock(out, at, s, t),
+            _ => bench_clock::clock_runs(out, at, s, t),
+        },
         _ => bench_say::run(out, at, b"0 data", data_part(n, s)),
     }
 }

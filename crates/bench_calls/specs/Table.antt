@@ -112,6 +112,10 @@ table =
     ∷ row "seasons_end" 0xD3_1_000_000_FFF_FFF
     -- A filter plan
     ∷ row "plan" 0xE0_2_000_FFF_FFF_FFF
+    -- Clocks
+    ∷ row "clock" 0xF0_2_001_001_FFF_FFF
+    ∷ row "clock_runs" 0xF1_2_006_006_FFF_FFF
+    ∷ row "write_clock" 0x7F_2_00B_00B_FFF_FFF
     -- Help
     ∷ row "help" 0xB0_1_000_000_FFF_FFF
     ∷ []

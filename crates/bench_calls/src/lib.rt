@@ -27,7 +27,7 @@ pub enum Called {
 // A row for each call: its number, how many groups it takes, how many bytes the first has at least and at most, and how
 // many the second and the third have at most, as digits of one hexadecimal number. FFF is more than a line can name. The first digit of a call's number is its family: what is answered of it is of one kind. (7 and 8 write into a
 // buffer, which is their last group of two or of three; A gives the data of a datagram.) New calls stand behind those of theirs.
-const ROWS: [usize; 91] = [
+const ROWS: [usize; 94] = [
     // Datagrams
     0x10_1_000_FFF_FFF_FFF, // request
     0x70_2_006_006_FFF_FFF, // write_basic
@@ -126,12 +126,16 @@ const ROWS: [usize; 91] = [
     0xD3_1_000_000_FFF_FFF, // seasons_end
     // A filter plan
     0xE0_2_000_FFF_FFF_FFF, // plan
+    // Clocks
+    0xF0_2_001_001_FFF_FFF, // clock
+    0xF1_2_006_006_FFF_FFF, // clock_runs
+    0x7F_2_00B_00B_FFF_FFF, // write_clock
     // Help
     0xB0_1_000_000_FFF_FFF, // help
 ];
 
 // Their names, in the order of the rows, with a blank between two.
-const NAMES: [u8; 1033] =
+const NAMES: [u8; 1062] =
     *b"request write_basic write_unicast write_colour_xy write_colour_tc write_colour_rgbwaf \
 write_basic_quiet write_unicast_quiet write_colour_xy_quiet write_colour_tc_quiet \
 write_colour_rgbwaf_quiet reply reply_data error_code write_reply event event_data \
@@ -144,7 +148,7 @@ close_request show_request settle_request item_request fresh_reply hold_reply \
 feed_reply close_reply show_reply settle_reply item_reply quiet capture_set summary_set \
 mark_set capture_empty capture_append capture_append_at capture_run capture_run_at \
 capture_open capture_count capture_prefix capture_record capture_show seasons \
-seasons_begin seasons_part seasons_end plan help";
+seasons_begin seasons_part seasons_end plan clock clock_runs write_clock help";
 
 // Whether two runs hold the same bytes.
 fn same(s: &[u8], t: &[u8]) -> bool
@@ -185,7 +189,7 @@ fn row_of(name: &[u8]) -> usize
     ensures { λ r. ⌜ r ≡ rowOf (now (name .entry)) ⌝ }
 {
     let k = place(&NAMES, name);
-    if k < 91 { ROWS[k] } else { 0 }
+    if k < 94 { ROWS[k] } else { 0 }
 }
 
 // Whether the groups are those that the row asks for.

@@ -9,7 +9,6 @@ use lib.ListN.{getD, set, replicate, length}
 use Rattle.refusal.specs.Test.{pick}
 use Rattle.refusal.specs.Answer.{Answer, refused, full}
 use Rattle.tick.specs.Age.{isOver}
-use Rattle.free_number.specs.declared.Book.{Book}
 use Rattle.book.specs.declared.Timed.{Timed}
 use Rattle.free_number.specs.declared.Given.{Given}
 use Rattle.book.specs.declared.Freed.{Freed}

@@ -19,7 +19,7 @@ no-years : daysOfFirst 0 ≡ 0
 unfolding daysOfFirst
 no-years = refl
 
-lies : (t : ℕ) → t < 4294967296 → Lies (dateOf t) (t / 86400)
+pub lies : (t : ℕ) → t < 4294967296 → Lies (dateOf t) (t / 86400)
 lies t h =
     let e : daysOfFirst 0 + t / 86400 ≡ t / 86400 = omega (arith, no-years) in
     rw e at (counted 136 1970 (t / 86400) (omega arith) (omega (arith, years-least 137, no-years)))
@@ -41,7 +41,7 @@ date-midnight t h = go (dateOf t) (lies t h)
         sym (in-time d (r .one) (r .most) (r .from) (sym (r .whole)) (omega arith)) ∙ ap At e
 
 -- and a date is the date of its midnight
-lies-at : (d : Date) (t : ℕ) → midnightOf d ≡ At t → (t < 4294967296) × Lies d (t / 86400)
+pub lies-at : (d : Date) (t : ℕ) → midnightOf d ≡ At t → (t < 4294967296) × Lies d (t / 86400)
 unfolding midnightOf
 lies-at d t h =
     pick-elim (isDate d)

@@ -96,7 +96,7 @@ years-rise i (suc j) h = go (leb i j) refl (years-rise i j)
 before-month : (y m d : ℕ) → 1 ≤ d → d ≤ daysIn y m → daysOfMonths y m + (d - 1) < daysOfMonths y (m + 1)
 before-month y m d h l = omega (arith, months-next y m (month-there y m (omega arith) .0))
 
-before-year : {d : Date} {n : ℕ} → Lies d n → n < daysOfYears (d .year + 1)
+pub before-year : {d : Date} {n : ℕ} → Lies d n → n < daysOfYears (d .year + 1)
 unfolding daysOf
 before-year {d} r =
     omega (arith, r .whole, before-month (d .year) (d .month) (d .day) (r .one) (r .most), sum-part (months (d .year)) (d .month + 1 - 1), years-next (d .year) (r .from))

@@ -55,7 +55,7 @@ fn days_of(year: u32) -> u32
 }
 
 // How many days a month has: none where there is no such month.
-fn days_in(year: u32, month: u32) -> u32
+pub fn days_in(year: u32, month: u32) -> u32
     ensures { λ r. ⌜ r ≡ daysIn year month ⌝ }
 {
     if month == 2 {

@@ -36,6 +36,8 @@ table =
     ∷ row 0x0_12 "NOT_A_FILTER"
     ∷ row 0x0_13 "FILTERS_FULL"
     ∷ row 0x0_14 "NOT_RISING"
+    ∷ row 0x0_15 "NOT_A_CLOCK"
+    ∷ row 0x0_16 "OUT_OF_RANGE"
     -- 1: commands
     ∷ row 0x1_01 "QUERY_GROUP_LABEL"
     ∷ row 0x1_08 "ENABLE_TPI_EVENT_EMIT"

@@ -75,22 +75,22 @@ unfolding before
 names-proper = refl
 
 module _ (kind number k : ℕ) (e : k ≡ placeIn (kind * 256 + number) keys) where
-  pub name-found : k < 81 → nameOf kind number ≡ full (wordIn 32 k names)
+  pub name-found : k < 83 → nameOf kind number ≡ full (wordIn 32 k names)
   unfolding nameOf
   name-found h = name-there (kind * 256 + number) table (rw (← e) h) ∙ rw (← e) (ap full (sym (word-joined 32 (namesOf table) names-proper k)))
 
-  pub name-none : 81 ≤ k → nameOf kind number ≡ refused 7
+  pub name-none : 83 ≤ k → nameOf kind number ≡ refused 7
   unfolding nameOf
   name-none h = name-nowhere (kind * 256 + number) table (rw (← e) h)
 
   -- so the word at the key's place is the name, or none
   pub name-text : nameText kind number ≡ wordIn 32 k names
   unfolding nameText
-  name-text = go (ltb k 81) refl
+  name-text = go (ltb k 83) refl
     where
-      go : (t : Bool) → ltb k 81 ≡ t → nameText kind number ≡ wordIn 32 k names
-      go true h = ap named (name-found (ltb-true k 81 h))
-      go false h = ap named (name-none (ltb-false k 81 h)) ∙ sym (word-joined 32 (namesOf table) names-proper k ∙ List·getD-eq-default (namesOf table) [] {n = k} (ltb-false k 81 h))
+      go : (t : Bool) → ltb k 83 ≡ t → nameText kind number ≡ wordIn 32 k names
+      go true h = ap named (name-found (ltb-true k 83 h))
+      go false h = ap named (name-none (ltb-false k 83 h)) ∙ sym (word-joined 32 (namesOf table) names-proper k ∙ List·getD-eq-default (namesOf table) [] {n = k} (ltb-false k 83 h))
 
 -- a text of some bytes that was put at the front of a buffer is written, and none was put exactly where there is no room for it
 module _ (f out out′ : List ℕ) (n : ℕ) (s : 0 < length f) (w : Puts f out 0 n out′) where
@@ -110,5 +110,5 @@ module _ (f out out′ : List ℕ) (n : ℕ) (s : 0 < length f) (w : Puts f out 
           let r : leb (length f) (length out) ≡ false = lt-leb (length f) (length out) (omega (arith, leb-false (0 + length f) (length out) e)) in
           record { says = rw r; leaves = rw r q }
 
-pub name-some : (k : ℕ) → k < 81 → 0 < length (wordIn 32 k names)
+pub name-some : (k : ℕ) → k < 83 → 0 < length (wordIn 32 k names)
 name-some k h = rw (word-joined 32 (namesOf table) names-proper k) (word-some 32 (namesOf table) names-proper k h)

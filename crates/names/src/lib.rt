@@ -20,7 +20,7 @@ pub const ERROR: u8 = 3;
 pub const EVENT: u8 = 4;
 
 // A row for each name: its kind and its number, as digits of one hexadecimal number.
-const KEYS: [u16; 81] = [
+const KEYS: [u16; 83] = [
     // Refusals
     0x0_00, // OK
     0x0_01, // TOO_SHORT
@@ -43,6 +43,8 @@ const KEYS: [u16; 81] = [
     0x0_12, // NOT_A_FILTER
     0x0_13, // FILTERS_FULL
     0x0_14, // NOT_RISING
+    0x0_15, // NOT_A_CLOCK
+    0x0_16, // OUT_OF_RANGE
     // Commands
     0x1_01, // QUERY_GROUP_LABEL
     0x1_08, // ENABLE_TPI_EVENT_EMIT
@@ -114,7 +116,7 @@ fn place(key: u16) -> usize
     ensures { λ r. ⌜ r ≡ placeIn key keys ⌝ }
 {
     let mut k: usize = 0;
-    while k < 81 {
+    while k < 83 {
         if KEYS[k] == key {
             return k;
         }
@@ -132,8 +134,8 @@ fn of_row(out: &mut [u8], at: usize, k: usize) -> usize
         at,
         b"OK TOO_SHORT BAD_LEAD UNKNOWN_COMMAND BAD_LENGTH_BYTE BAD_LENGTH BAD_SUM BAD_ARGUMENT NO_ROOM \
 NO_NUMBER_FREE NOT_AWAITED BAD_DATA_SIZE NONE_THERE OUTSIDE_PROFILE UNKNOWN_VERSION BAD_RECORD \
-EARLIER_TIME RETIRED NOT_A_FILTER FILTERS_FULL NOT_RISING QUERY_GROUP_LABEL ENABLE_TPI_EVENT_EMIT \
-QUERY_GROUP_NUMBERS QUERY_SCENE_NUMBERS QUERY_PROFILE_NUMBERS QUERY_OCCUPANCY_INSTANCE_TIMERS DALI_COLOUR QUERY_SCENE_NUMBERS_FOR_GROUP \
+EARLIER_TIME RETIRED NOT_A_FILTER FILTERS_FULL NOT_RISING NOT_A_CLOCK OUT_OF_RANGE QUERY_GROUP_LABEL \
+ENABLE_TPI_EVENT_EMIT QUERY_GROUP_NUMBERS QUERY_SCENE_NUMBERS QUERY_PROFILE_NUMBERS QUERY_OCCUPANCY_INSTANCE_TIMERS DALI_COLOUR QUERY_SCENE_NUMBERS_FOR_GROUP \
 QUERY_SCENE_LABEL_FOR_GROUP QUERY_CONTROLLER_VERSION_NUMBER QUERY_CONTROL_GEAR_DALI_ADDRESSES \
 QUERY_DMX_DEVICE_LABEL_BY_NUMBER DALI_ADD_TPI_EVENT_FILTER QUERY_DALI_TPI_EVENT_FILTERS \
 DALI_CLEAR_TPI_EVENT_FILTERS QUERY_DALI_COLOUR SET_TPI_EVENT_UNICAST_ADDRESS \
@@ -163,7 +165,7 @@ pub fn name(kind: u8, number: u8, out: &mut [u8]) -> Wrote
     ensures { λ r. ⌜ Written (nameOf kind number) (now (out .entry)) r (now (out .exit)) ⌝ }
 {
     let k = place((kind as u16) * 256 + (number as u16));
-    if 81 <= k {
+    if 83 <= k {
         return Wrote::Refused(7);
     }
     let n = of_row(out, 0, k);

@@ -1,5 +1,5 @@
 // What the first word of a command line asks for, an option of the program corridor or none, and whether two words are the same. It leans on words for
-// quoted text, on refusal for the words of a test. docs/SHEET.md, "Arguments"; the program plan asks it for its option and its files.
+// quoted text, on refusal for the words of a test. docs/SHEET.md, "Arguments"; the programs plan and clock ask it for an option, and plan for its files.
 ghost use mathlib.Core.Path.{_≡_};
 ghost use Rattle.words.specs.Words.{text};
 ghost use Rattle.options.specs.Option.{isSame, isOption, optionOf};

@@ -29,7 +29,7 @@ pub fn numbered(out: &mut [u8], at: usize, s: &[u8], n: u64) -> usize
     text::decimal(out, e, n)
 }
 
-// A bar.
+// A bar of the picture.
 pub fn bar(out: &mut [u8], at: usize, x: u16, h: u8, colour: &[u8]) -> usize
     ensures { λ r. ⌜ PutsAll (barTexts x h (now (colour .entry))) (now (out .entry)) at r (now (out .exit)) ⌝ }
 {
@@ -41,7 +41,7 @@ pub fn bar(out: &mut [u8], at: usize, x: u16, h: u8, colour: &[u8]) -> usize
     lent::word(out, e, b"\"/>")
 }
 
-// Where its value stands.
+// Where the value of a bar of the picture stands.
 pub fn above(out: &mut [u8], at: usize, x: u16, h: u8) -> usize
     ensures { λ r. ⌜ PutsAll (aboveTexts x h) (now (out .entry)) at r (now (out .exit)) ⌝ }
 {

@@ -3,8 +3,6 @@
 // the sheet share, on crate sheet_bars for a bar, on season for a season, on lent and text for what is put. docs/SHEET.md, `--svg`.
 ghost use Prim.Native.Nat.{_+_};
 ghost use mathlib.Core.Path.{_≡_};
-ghost use mathlib.Core.List.{[], _∷_};
-ghost use Rattle.text.specs.Text.{decimalOf};
 ghost use Rattle.lent.specs.Puts.{Puts};
 ghost use Rattle.lent.specs.All.{PutsAll};
 ghost use Rattle.figures.specs.Figures.{shareOf, spanOr};

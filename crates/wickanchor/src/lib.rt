@@ -1,8 +1,8 @@
 // The codec for programs in C and Rust: `rt staticlib wickanchor` makes a static library of the functions below, for x86-64. A run of
 // bytes is a pointer and then a length; a result is a struct by value, laid out as C does. A refusal is its number by documents 01 and 02,
 // and 0 stands for none; every other field of a refused call is 0, but for a mark, bytes in use and a summary that were handed in.
-// include/wickanchor.h declares them for C. Each function hands on what the crate of its subject answers, as crates c_datagrams, c_values,
-// c_capture, c_seasons and c_plan put it, and its contract cites that crate's definition.
+// include/wickanchor.h declares them for C. Each function hands on what the crate of its subject answers, as crates c_requests, c_datagrams,
+// c_values, c_capture, c_seasons, c_plan and c_clock put it, and its contract cites that crate's definition.
 ghost use mathlib.Core.Path.{_≡_};
 ghost use mathlib.Core.Bool.{not};
 ghost use mathlib.Core.List.{[], _∷_};
@@ -34,6 +34,9 @@ ghost use Rattle.capture.specs.Capture.{opened, counted, prefixed, found, nothi
 ghost use Rattle.report.specs.Report.{reported, reporting};
 ghost use Rattle.by_parts.specs.Parts.{begun, parted, ended};
 ghost use Rattle.book.specs.Ticks.{timed, freshTimed, GivesUp};
+ghost use Rattle.clock_text.specs.Clock.{readClock};
+ghost use Rattle.clock_write.specs.Writing.{writeClock};
+ghost use Rattle.clock_day.specs.Day.{runsAt};
 ghost use Rattle.stream.specs.Stream.{items};
 ghost use Rattle.extent.specs.declared.Line.the-variants.{Request};
 ghost use Rattle.line.specs.Rule.{itemAt, settle};
@@ -52,6 +55,7 @@ ghost use Rattle.c_capture.specs.Records.{recordOut};
 ghost use Rattle.c_seasons.specs.Seasons.{corridorIn, boundariesIn, seasonsOut};
 ghost use Rattle.c_seasons.specs.States.{stateIn, stateOut};
 ghost use Rattle.c_plan.specs.Plans.{verdictOut, leftOut, sinceOut};
+ghost use Rattle.c_clock.specs.Clocks.{readOut, clockIn, runsOut};
 use c_capture::WickAppended;
 use c_capture::WickCapture;
 use c_capture::WickCounted;
@@ -61,6 +65,9 @@ use c_capture::WickRan;
 use c_capture::WickRanAt;
 use c_capture::WickRecord;
 use c_capture::WickSummary;
+use c_clock::WickClock;
+use c_clock::WickClockRead;
+use c_clock::WickClockRuns;
 use c_datagrams::WickAddress;
 use c_datagrams::WickAim;
 use c_datagrams::WickCode;
@@ -86,6 +93,7 @@ use c_values::WickItem;
 use c_values::WickNumber;
 use c_values::WickQuiet;
 use c_values::WickReader;
+use clock_day::Given;
 use colour::Colour;
 use event::Layout;
 use meaning::Arguments;
@@ -902,4 +910,41 @@ pub extern "C" fn wick_plan_since(plan: &[u8], address: u8, instance: u8, kind: 
     ensures { λ w. ⌜ w ≡ sinceOut (sinceOf (now (plan .entry)) address instance kind) ⌝ }
 {
     c_plan::since_out(filter_since::hidden_since(plan, address, instance, kind))
+}
+
+// Reads the text of a clock, which is astronomical where the flag is not 0.
+#[no_mangle]
+pub extern "C" fn wick_clock(astronomical: u8, s: &[u8]) -> WickClockRead
+    ensures { λ w. ⌜ w ≡ readOut (readClock (not (eqb astronomical 0)) (now (s .entry))) ⌝ }
+{
+    c_clock::read_out(clock_text::read(astronomical != 0, s))
+}
+
+// Whether the clock of a text runs on a day, and at which second from midnight.
+#[no_mangle]
+pub extern "C" fn wick_clock_runs(
+    astronomical: u8,
+    year: u16,
+    month: u8,
+    day: u8,
+    weekday: u8,
+    s: &[u8],
+) -> WickClockRuns
+    ensures { λ w. ⌜ w ≡ runsOut (runsAt (not (eqb astronomical 0)) (record { year = year; month = month; day = day; weekday = weekday }) (now (s .entry))) ⌝ }
+{
+    let given = Given {
+        year,
+        month,
+        day,
+        weekday,
+    };
+    c_clock::runs_out(clock_day::runs(astronomical != 0, given, s))
+}
+
+// Writes a clock as its text.
+#[no_mangle]
+pub extern "C" fn wick_write_clock(clock: WickClock, out: &mut [u8]) -> WickWrote
+    ensures { λ w. ⌜ WrittenOut (writeClock (clockIn clock)) (now (out .entry)) w (now (out .exit)) ⌝ }
+{
+    c_datagrams::wrote_out(clock_write::write(c_clock::clock_in(clock), out))
 }

@@ -11,10 +11,10 @@ use Rattle.names.proofs.place.Statement.{statement}
 use Rattle.names.proofs.place.Tie as tie
 
 abbrev Inv-loop : tie.InvT-loop
-Inv-loop key k₀ k = (k ≤ 81) × (k + placeIn key (drop k keys) ≡ placeIn key keys)
+Inv-loop key k₀ k = (k ≤ 83) × (k + placeIn key (drop k keys) ≡ placeIn key keys)
 
 abbrev μ-loop : tie.MeasureT-loop
-μ-loop key k₀ k = 81 - k
+μ-loop key k₀ k = 83 - k
 
 loop-holds : tie.Need-loop-holds Inv-loop μ-loop
 loop-holds c = (search needs, zero-add _)

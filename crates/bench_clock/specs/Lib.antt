@@ -1,0 +1,3 @@
+-- what the contracts cite
+pub mod Given
+pub mod Told
