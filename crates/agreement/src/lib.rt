@@ -3,3 +3,4 @@
 // rule of a line (crate line) and the definitions that the datagram readers are held to (crates request and reply).
 // A retired command reads there as marked, and no run of writers' calls puts one on a line.
 // Document 01, "Reading a line" and "Refusals, by number"; document 02, W-210.
+#![tactic(auto)]

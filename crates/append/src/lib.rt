@@ -1,5 +1,7 @@
 // A capture emptied and made longer by one event: by the letter, which judges the whole of it first, and by a mark, in the time of one
 // datagram. It leans on capture for what is judged of it, on record for the bytes, on summary for the counts. Document 02, W-207.
+#![tactic(auto)]
+
 ghost use Rattle.std.specs.Prelude.{◌+◌, ◌≡◌, leb};
 ghost use Rattle.refusal.specs.Answer.{refused};
 ghost use Rattle.event_type.specs.Types.{type_number};

@@ -1,6 +1,8 @@
 // What the words of a command line ask for: a number, a MAC address, a boundary between two seasons (crate options: an option). It leans on event for a MAC
 // address, on calendar for the midnight of a date, on text for what digits say, on refusal for the words of a test. docs/SHEET.md, "Arguments";
 // crate plan_wanted asks it for numbers, and crate clock_asked for a date.
+#![tactic(auto)]
+
 ghost use Rattle.std.specs.Prelude.{◌≤◌, ◌≡◌, length};
 ghost use Rattle.asked.specs.Asked.{as_boundary, on_date, by_date, boundary_of};
 ghost use Rattle.asked.specs.Asked.{number_of, pair_of, byte_at, is_parting, parted, address_of, mac_of};

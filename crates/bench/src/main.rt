@@ -3,6 +3,8 @@
 // the input, calls are made (calls.rt), and answers are written out. A book, a reader of the request line, one of the reply
 // line, a capture and a report that comes in parts are carried by the run, and no function but those that answer a line knows
 // of them.
+#![tactic(auto)]
+
 mod calls;
 
 use calls::{State, Turn};

@@ -1,5 +1,7 @@
 // The book of unanswered requests on the bench: as it is handed in, and what is answered of it. docs/BENCH.md, "The book of
 // unanswered requests". It leans on crates bench_words and bench_say, and on crate book for what is said.
+#![tactic(auto)]
+
 ghost use Rattle.std.specs.Prelude.{◌≡◌};
 ghost use Rattle.lent.specs.All.{PutsAll};
 ghost use Rattle.bench_words.specs.Words.{front_of};

@@ -1,5 +1,7 @@
 // The calls of the bench: a constant table of their names, numbers and groups, and what a line calls by it. docs/BENCH.md,
 // "What is no call". It leans on crate bench_words, which takes a line apart, and on crate bench_say.
+#![tactic(auto)]
+
 ghost use Rattle.std.specs.Prelude.{◌≡◌};
 ghost use Rattle.lent.specs.All.{PutsAll};
 ghost use Rattle.bench_words.specs.Words.{words_at};

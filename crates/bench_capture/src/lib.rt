@@ -1,6 +1,8 @@
 // The capture on the bench: what is carried of it beside the bytes of its buffer, what is handed in, what each call moves, and what is
 // answered. docs/BENCH.md, "The capture". It leans on crates bench_words and bench_say, and on crates summary, capture, append and
 // morning for what is said.
+#![tactic(auto)]
+
 ghost use Rattle.std.specs.Prelude.{◌≤◌, ◌≡◌, [], ◌∷◌, ◌++◌};
 ghost use Rattle.text.specs.Text.{decimal_of};
 ghost use Rattle.lent.specs.All.{PutsAll};

@@ -1,5 +1,7 @@
 // Clocks of Domintell sites on the bench: what is handed in, and what is answered. docs/BENCH.md, "Clocks". It leans on crate bench_words, which takes
 // bytes apart, on crates lent, text and signed, which put the texts, and on crates clock_text and clock_day for what is said.
+#![tactic(auto)]
+
 ghost use Rattle.std.specs.Prelude.{◌≡◌, [], ◌∷◌};
 ghost use Rattle.text.specs.Text.{decimal_of};
 ghost use Rattle.lent.specs.All.{PutsAll};

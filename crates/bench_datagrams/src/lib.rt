@@ -1,5 +1,7 @@
 // What replies and events are read as, and what a writer did, as the bench's answers. docs/BENCH.md, "Datagrams". It leans on
 // crate bench_say, and on crates frame, reply and event for what is said.
+#![tactic(auto)]
+
 ghost use Rattle.std.specs.Prelude.{◌≡◌};
 ghost use Rattle.lent.specs.All.{PutsAll};
 ghost use Rattle.bench_say.specs.Pieces.{pieces_texts};

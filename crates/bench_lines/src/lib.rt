@@ -1,5 +1,7 @@
 // The readers of the two lines on the bench: a reader as it is handed in, and what is answered of it. docs/BENCH.md, "Lines".
 // It leans on crates bench_words and bench_say, and on crates reader and stream for what is said.
+#![tactic(auto)]
+
 ghost use Rattle.std.specs.Prelude.{◌≡◌};
 ghost use Rattle.lent.specs.All.{PutsAll};
 ghost use Rattle.bench_lines.specs.Lines.{handed_reader, done_texts, fed_texts, closed_texts, held_texts, step_texts, item_texts};

@@ -1,5 +1,7 @@
 // Reply data as the bench's answers. docs/BENCH.md, "Reply data". It leans on crate bench_say, and on crates maps and filters
 // for what is said.
+#![tactic(auto)]
+
 ghost use Rattle.std.specs.Prelude.{◌≡◌};
 ghost use Rattle.lent.specs.All.{PutsAll};
 ghost use Rattle.bench_maps.specs.Maps.{data_texts};

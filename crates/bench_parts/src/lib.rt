@@ -1,5 +1,7 @@
 // Parts of datagrams, and whether a run passes, as the bench's answers. docs/BENCH.md, "Parts of datagrams" and "Lines". It leans on crate bench_say, and on crates
 // command, table, error and target for what is said.
+#![tactic(auto)]
+
 ghost use Rattle.std.specs.Prelude.{◌≡◌};
 ghost use Rattle.lent.specs.All.{PutsAll};
 ghost use Rattle.bench_parts.specs.Parts.{part_texts};

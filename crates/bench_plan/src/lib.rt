@@ -1,5 +1,7 @@
 // The check of a filter plan as the bench's answer. docs/BENCH.md, "A filter plan". It leans on crates lent and text, which put the texts, and on crate
 // filter_plan for what is said.
+#![tactic(auto)]
+
 ghost use Rattle.lent.specs.All.{PutsAll};
 ghost use Rattle.bench_plan.specs.Told.{verdict_texts};
 

@@ -1,5 +1,7 @@
 // The bench's answers in a lent buffer, from a place on: names, numbers and bytes, put one behind the other. Each function
 // answers the place behind what it put. It leans on crates lent, words and text, which put one text. docs/BENCH.md, "A line".
+#![tactic(auto)]
+
 ghost use Rattle.std.specs.Prelude.{[], ◌∷◌};
 ghost use Rattle.text.specs.Text.{hex_of};
 ghost use Rattle.lent.specs.All.{PutsAll};

@@ -1,5 +1,7 @@
 // The report of seasons on the bench: what is handed in, what is carried of one that comes in parts, and what is answered. docs/BENCH.md,
 // "Seasons". It leans on crates bench_words and bench_say, and on crates season, report and by_parts for what is said.
+#![tactic(auto)]
+
 ghost use Rattle.lent.specs.All.{PutsAll};
 ghost use Rattle.bench_say.specs.Pieces.{pieces_texts};
 ghost use Rattle.bench_seasons.specs.Told.{corridor_in, boundaries_in, season_texts, report_texts};

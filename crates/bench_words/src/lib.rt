@@ -1,5 +1,7 @@
 // The words of a bench line, and the groups of bytes that they say. docs/BENCH.md, "A line". It leans on
 // crate words, on crate text for what a hexadecimal digit says, and on crate refusal for the words of a test.
+#![tactic(auto)]
+
 ghost use Rattle.std.specs.Prelude.{◌+◌, ◌*◌, ◌≤◌, ◌≡◌, length, get_or};
 ghost use Rattle.bench_words.specs.Words.{blanks, start_of, part_of, wide_of};
 ghost use Rattle.bench_words.specs.Groups.{word_of, Grows, Reads};

@@ -2,6 +2,8 @@
 // keeps the book and lends what a call needs of it; what a call is not lent, it cannot change. It leans on crate free_number for the number of a
 // request, on crate command for which commands are known, and on crate tick for how old a request is. (Crate awaited: theorems of any run of its calls.)
 // Document 01, "The book of unanswered requests", with refusals 3, 9 and 10; document 02, W-210, with 17, and W-205.
+#![tactic(auto)]
+
 ghost use Rattle.std.specs.Prelude.{◌≡◌};
 ghost use Rattle.book.specs.Ticks.{timed, fresh_timed, Asks, Replies, GivesUp};
 

@@ -1,6 +1,8 @@
 // The report of one corridor, of a capture that comes in parts: a state by value that takes them one after the other, cut anywhere, and
 // gives in the end the report of crate report, or its refusal, for the parts put together. Between two parts it holds at most one record
 // less a byte. It leans on passing for the records of a part, on capture for the version, on report for what is answered. Document 02, W-213.
+#![tactic(auto)]
+
 ghost use Rattle.std.specs.Prelude.{◌≤◌, min, ◌≡◌, false, [], ◌++◌, length, take};
 ghost use Rattle.refusal.specs.Answer.{refused};
 ghost use Rattle.event.specs.Layout.{width_of};

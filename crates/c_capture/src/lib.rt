@@ -2,6 +2,8 @@
 // answers of crates capture, append and morning into them, and marks and summaries back (crate c_seasons has reports). A refusal is its number
 // by documents 01 and 02, and 0 stands for none. Beside a time stands a flag: 0 where it is absent, and then it is handed over as 0; every other
 // flag that is handed in says that there is one. Each contract is an equation over what the answer says. Document 02, W-207 and W-208.
+#![tactic(auto)]
+
 ghost use Rattle.std.specs.Prelude.{◌-◌, ◌≡◌};
 ghost use Rattle.capture.specs.Capture.{said_opening, said_step};
 ghost use Rattle.c_capture.specs.Times.{time_in, time_is, time_no};

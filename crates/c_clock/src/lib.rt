@@ -1,6 +1,8 @@
 // Clocks of Domintell sites as programs in C have them: the structs that crate wickanchor takes and hands over, laid out as C does, and what turns the
 // answers of crates clock_text and clock_day into them, and a clock back, which crate clock_write writes. A refusal is its number by document 02, 0 stands for
 // none, and every other field of a refused call is 0. Each contract is an equation over what the answer says. Document 02, W-214.
+#![tactic(auto)]
+
 ghost use Rattle.std.specs.Prelude.{◌≡◌};
 ghost use Rattle.clock_text.specs.Clock.{said as saidClock};
 ghost use Rattle.clock_day.specs.Day.{said as saidRun};

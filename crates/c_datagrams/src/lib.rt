@@ -1,6 +1,8 @@
 // Datagrams as programs in C have them: the structs that crate wickanchor hands over, laid out as C does, and what turns the answers of
 // crates frame, reply, error and event into them, and addresses back; requests stand in crate c_requests and are handed on. A refusal is its number by
 // document 01, 0 stands for none, and every other field of a refused call is 0. Each contract is an equation over what the answer says.
+#![tactic(auto)]
+
 ghost use Rattle.std.specs.Prelude.{◌≡◌};
 ghost use Rattle.refusal.specs.Answer.{full};
 ghost use Rattle.frame.specs.Written.{said as saidWrote};

@@ -1,5 +1,7 @@
 // The check of a filter plan as programs in C have it: the structs that crate wickanchor hands over, laid out as C does, and what turns the answers of
 // crates filter_plan and filter_since into them. A filter is laid out so already. Each contract is an equation. Document 02, W-212.
+#![tactic(auto)]
+
 ghost use Rattle.std.specs.Prelude.{◌≡◌};
 ghost use Rattle.c_plan.specs.Plans.{verdict_out, left_out, since_out};
 

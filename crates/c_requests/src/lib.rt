@@ -1,6 +1,8 @@
 // Requests as programs in C have them: structs laid out as C does, and what turns the answers of crates request, meaning, target and colour into them,
 // and an address back. A refusal is its number by document 01, 0 stands for none, and every other field of a refused call is 0. Each contract is an
 // equation over what the answer says.
+#![tactic(auto)]
+
 ghost use Rattle.std.specs.Prelude.{◌≡◌};
 ghost use Rattle.refusal.specs.Test.{flag};
 ghost use Rattle.refusal.specs.Answer.{full};

@@ -2,6 +2,8 @@
 // turns the answers of crates report and by_parts into them, and corridors, boundaries and the state of a report between two parts back.
 // Times and refusals stand as crate c_capture puts them, MAC addresses as c_datagrams does. Each contract is an equation over what the answer
 // says, and every value of a struct that is handed in has a meaning. Document 02, W-213.
+#![tactic(auto)]
+
 ghost use Rattle.std.specs.Prelude.{◌≡◌, map};
 ghost use Rattle.c_seasons.specs.Seasons.{corridor_in, corridor_out, boundaries_in, boundaries_out, season_in, season_out, seasons_out};
 ghost use Rattle.c_seasons.specs.States.{stage_in, version_no, stage_no, stage_refusal, passed_in, state_in, state_out};

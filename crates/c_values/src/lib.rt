@@ -3,6 +3,8 @@
 // and readers back.
 // A refusal is its number by document 01, 0 stands for none, and every other field of a refused call is 0. Each contract is
 // an equation over what the answer says.
+#![tactic(auto)]
+
 ghost use Rattle.std.specs.Prelude.{◌≡◌};
 ghost use Rattle.target.specs.Target.{said_line, said_device, said_number};
 ghost use Rattle.maps.specs.Said.{said16, said32, said64, said_lowest};

@@ -1,5 +1,7 @@
 // Days of the Gregorian calendar and seconds since 1970, UTC: the midnight of a date, the date of a second, and a second as text. It leans
 // on lent for what is put into a lent buffer, on refusal for the words of a test. docs/SHEET.md, "Arguments" and "`--text`".
+#![tactic(auto)]
+
 ghost use Rattle.std.specs.Prelude.{◌≤◌, ◌≡◌};
 ghost use Rattle.lent.specs.Puts.{Puts};
 ghost use Rattle.calendar.specs.Calendar.{is_leap, days_of, days_in, midnight_of, date_in, date_of, figure, time_text};

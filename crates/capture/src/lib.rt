@@ -1,6 +1,8 @@
 // A capture: a lent buffer with a count of its bytes in use, a version byte at the front, then records one behind the other. Opened,
 // counted afresh, walked record by record, and found again where a write was torn (crate append makes it longer). It leans on record for
 // one record and on summary for what is counted. Document 02, W-207.
+#![tactic(auto)]
+
 ghost use Rattle.std.specs.Prelude.{◌+◌, ◌≤◌, ◌≡◌, [], length, drop};
 ghost use Rattle.refusal.specs.Answer.{refused};
 ghost use Rattle.event.specs.Layout.{width_of};

@@ -1,5 +1,7 @@
 // Says of the clocks of a Domintell site whether each of them runs on a day, and when: docs/CLOCK.md. It reads its argument and standard input, and
 // prints what crate clock_rows puts of each line; crate clock_asked reads the date.
+#![tactic(auto)]
+
 ghost use Rattle.std.specs.Prelude.{◌≤◌, ◌≡◌, length};
 
 use clock_asked::DayAsked;

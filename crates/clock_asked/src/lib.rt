@@ -1,5 +1,7 @@
 // The day that the program clock is asked of: its midnight, and its date and weekday. It leans on asked and calendar for dates, on clock_day for
 // what is known of a day, on refusal for the words of a test. docs/CLOCK.md, "The date".
+#![tactic(auto)]
+
 ghost use Rattle.std.specs.Prelude.{◌≡◌};
 ghost use Rattle.clock_asked.specs.Asked.{within, day_of, given_of};
 

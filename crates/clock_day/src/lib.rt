@@ -1,5 +1,7 @@
 // Whether a clock of a Domintell site runs on a day, and at which second from midnight. It leans on clock_text, which reads the clock, on calendar for
 // the days of a month, on maps for the bits of a number. Document 02, W-214; source 000, section 4.5.b, type K.
+#![tactic(auto)]
+
 ghost use Rattle.std.specs.Prelude.{◌≤◌, ◌<◌, ◌≡◌};
 ghost use Rattle.clock_day.specs.Day.{is_given, runs_on, seconds_in, second_of, said, on_day, runs_at};
 ghost use Rattle.refusal.specs.Answer.{full};

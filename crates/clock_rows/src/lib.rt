@@ -2,6 +2,8 @@
 // clock_day for what a clock does on a day, on clock_asked for the day, on clock_told for a line that is refused, on signed, calendar, text and lent for
 // what is put, on words for the end of a line, on plan_wanted for the lines of a text, on clocks for where a second lies, on refusal for the words of a test. docs/CLOCK.md, "Lines" and
 // "The rows".
+#![tactic(auto)]
+
 ghost use Rattle.std.specs.Prelude.{◌≤◌, ◌≡◌, length};
 ghost use Rattle.lent.specs.Puts.{Puts};
 ghost use Rattle.lent.specs.All.{PutsAll};

@@ -1,6 +1,8 @@
 // A clock of a Domintell site, and the reading of its text (crate clock_write writes it, clock_day says when it runs). It leans on words for
 // quoted text, on calendar for two decimal digits, on text for two hexadecimal ones, on refusal for the words of a test.
 // Document 02, W-214; source 000, section 4.5.b, type K.
+#![tactic(auto)]
+
 ghost use Rattle.std.specs.Prelude.{◌+◌, ◌≤◌, ◌≡◌, length, drop};
 ghost use Rattle.clock_text.specs.Clock.{is_digit, is_symbol, stands, has_form, is_text, symbol_of, number_in, byte_in, time_in, offset_in, clock_in};
 ghost use Rattle.clock_text.specs.Clock.{is_time, is_none, is_offset, in_range, said, read_clock};

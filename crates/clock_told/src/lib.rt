@@ -1,5 +1,7 @@
 // A line that the program clock refuses: what its row says, and what is told of it on standard error. It leans on clock_day for what a clock's text is
 // answered, on lent, text and words for what is put, on refusal for the words of a test. docs/CLOCK.md, "The rows" and "Lines on standard error".
+#![tactic(auto)]
+
 ghost use Rattle.lent.specs.Puts.{Puts};
 ghost use Rattle.lent.specs.All.{PutsAll};
 ghost use Rattle.clock_day.specs.Day.{said};

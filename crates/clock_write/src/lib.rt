@@ -1,5 +1,7 @@
 // A clock of a Domintell site written back as its text (crate clock_text reads it). It leans on frame for what a writer answers, on lent for
 // what is put into a lent buffer, on text for hexadecimal digits, on calendar for decimal ones. Document 02, W-214.
+#![tactic(auto)]
+
 ghost use Rattle.std.specs.Prelude.{◌+◌, ◌≤◌, ◌≡◌, length};
 ghost use Rattle.lent.specs.Puts.{Puts};
 ghost use Rattle.frame.specs.Written.{Written};

@@ -1,6 +1,8 @@
 // Colours, as a colour request carries them: each colour type a case of its own, read from its colour data and laid out as such. It leans on
 // crate command for the types and the bytes of their channels, and on crate order for numbers of two bytes. Document 02, W-202; source 002,
 // "DALI Colour Request Frame".
+#![tactic(auto)]
+
 ghost use Rattle.std.specs.Prelude.{◌≡◌};
 ghost use Rattle.colour.specs.Colour.{said_colour, said, read_colour, data_of};
 

@@ -1,6 +1,8 @@
 // The 33 known commands: each with the shape of its frame, the rule of its arguments and whether it is retired; and the colour types of the
 // colour request. Document 01, "Requests and their argument ranges", and document 02, W-202 and W-210; source 002, "DALI Colour Request
 // Frame".
+#![tactic(auto)]
+
 ghost use Rattle.std.specs.Prelude.{◌≡◌};
 ghost use Rattle.command.specs.Command.{numbers_of, numbers_in, is_known, is_retired, Decided};
 ghost use Rattle.command.specs.Colours.{data_bytes};

@@ -1,5 +1,7 @@
 // The error codes that have names, from a fixed table. Document 01: "Error codes 01–04 and B0–B8 have names from a fixed
 // table"; source 002, "Error Codes", has the names.
+#![tactic(auto)]
+
 ghost use Rattle.std.specs.Prelude.{◌≡◌};
 ghost use Rattle.error.specs.Error.{name_of, said_name};
 

@@ -1,6 +1,8 @@
 // Events as single datagrams, read, with their data part (crate writers writes them). It leans on lead for the lead and the most data, on
 // order for the target, on event_type for the type and the instance, on sum for the sum.
 // Document 01, "Frames"; source 002, "TPI Event Multicast Frame".
+#![tactic(auto)]
+
 ghost use Rattle.std.specs.Prelude.{◌+◌, ◌≤◌, ◌≡◌, length};
 ghost use Rattle.order.specs.Order.{high_first, number_in};
 ghost use Rattle.frame.specs.Frame.{listed};

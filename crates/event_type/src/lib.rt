@@ -1,4 +1,6 @@
 // An event's type and the instance number that its data may begin with. Document 01, "Frames"; source 002, "TPI Event Types".
+#![tactic(auto)]
+
 ghost use Rattle.std.specs.Prelude.{◌≡◌};
 ghost use Rattle.event_type.specs.Types.{said_type, kind_of, type_number, carries, said_instance, instance_of};
 

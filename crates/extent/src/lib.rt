@@ -1,5 +1,7 @@
 // The request line and the reply line: the lead of each, what its first bytes tell of a frame's length, and the most that a reader holds. It leans on
 // the leads and the commands. Document 01, "Reading a line"; document 02, W-202.
+#![tactic(auto)]
+
 ghost use Rattle.std.specs.Prelude.{◌≡◌};
 ghost use Rattle.command.specs.declared.Shape.TheVariants.{Unicast, Colour};
 ghost use Rattle.command.specs.Length.{length_of};

@@ -1,6 +1,8 @@
 // The figures of the sheet of one corridor, which more than one of its forms has: the share that a bar is of, a span, a time that may not
 // be there, the title, and where a season begins and ends. It leans on crate season for corridors and boundaries, on calendar for times,
 // on lent and text for what is put into a lent buffer. docs/SHEET.md.
+#![tactic(auto)]
+
 ghost use Rattle.std.specs.Prelude.{◌≤◌, ◌<◌, ◌≡◌, [], ◌∷◌, length};
 ghost use Rattle.text.specs.Text.{hex_of};
 ghost use Rattle.words.specs.Words.{text};

@@ -1,5 +1,7 @@
 // What a plan's request asks of a controller's event filters: to add one or to clear bits of one; and which event types a mask names. It leans on
 // crate request, which reads the request, and on crate maps for what a bit is. Document 02, W-212, with refusals 1 to 7 and 18.
+#![tactic(auto)]
+
 ghost use Rattle.std.specs.Prelude.{◌≡◌};
 ghost use Rattle.meaning.specs.Meaning.{said_meaning};
 ghost use Rattle.request.specs.Said.{said_contents};

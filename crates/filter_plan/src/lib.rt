@@ -1,6 +1,8 @@
 // A contractor's filter plan, checked before it goes to a controller: the filters that it leaves, and whether they hide an event that is wanted
 // (crate filter_since: since which request; crate filter_answers: theorems). It leans on crate filter_asked for what each request asks. Document 02, W-212, with
 // refusals 1 to 7, 18 and 19.
+#![tactic(auto)]
+
 ghost use Rattle.std.specs.Prelude.{◌≤◌, ◌<◌, ◌≡◌, [], length, take, drop};
 ghost use Rattle.filter_asked.specs.Asked.{add as adding, said_asked, asked};
 ghost use Rattle.filter_plan.specs.Filters.{cleared, next as next_of, is_hidden};

@@ -1,5 +1,7 @@
 // Since which request of a contractor's filter plan an event is hidden, and a request and a wanted event by their places. It leans on crate
 // filter_asked for what a request asks and on crate filter_plan for how a plan is cut. Document 02, W-212.
+#![tactic(auto)]
+
 ghost use Rattle.std.specs.Prelude.{◌+◌, ◌≡◌};
 ghost use Rattle.filter_asked.specs.Asked.{said_asked};
 ghost use Rattle.filter_plan.specs.Plan.{request_at};

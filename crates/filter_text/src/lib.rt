@@ -1,6 +1,8 @@
 // A request and a filter as text, put into a lent buffer from a place on: where the request stands, and its bytes; the filter's address and instance, its mask and the types that this names; and the line that shows a mask
 // whose two bytes were swapped. It leans on crate filter_asked for filters and the types of a mask, on crate names for the names of types, on crates
 // lent and text for what is put. docs/PLAN.md, "The answer".
+#![tactic(auto)]
+
 ghost use Rattle.std.specs.Prelude.{◌≡◌};
 ghost use Rattle.lent.specs.All.{PutsAll};
 ghost use Rattle.filter_text.specs.Told.{start_of, placed_texts, instance_texts, type_texts, next_texts, types_texts, types_of, filter_texts, line_texts, exchanged, slip_texts, slipped_texts};

@@ -1,6 +1,8 @@
 // The filters in the reply to 32: a mode byte, then up to 15 entries of four bytes. The entries are handed back as they
 // stand: no address, instance or mask is judged. It leans on order for an entry's event mask.
 // Document 01, "Four orders in reply data".
+#![tactic(auto)]
+
 ghost use Rattle.std.specs.Prelude.{◌≡◌};
 ghost use Rattle.filters.specs.Filters.{said_filters, said_entry, filters_of, entry_of};
 

@@ -1,6 +1,8 @@
 // A frame in a lent buffer: some bytes, and behind them the sum that makes the exclusive-or of all 0. It is the last step
 // of every writer, with the one refusal that all writers share: 8, the buffer is shorter than the frame.
 // Document 01, "Frames" and "Refusals, by number".
+#![tactic(auto)]
+
 ghost use Rattle.std.specs.Prelude.{◌++◌};
 ghost use Rattle.refusal.specs.Answer.{full};
 ghost use Rattle.frame.specs.Frame.{sealed};

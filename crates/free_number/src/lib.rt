@@ -1,5 +1,7 @@
 // The sequence number for a request: the first free one after the last given. It leans on crate command for which commands are known and which
 // are retired. Document 01, "The book of unanswered requests", with refusals 3 and 9; document 02, W-210, with 17.
+#![tactic(auto)]
+
 ghost use Rattle.std.specs.Prelude.{◌≡◌};
 ghost use Rattle.free_number.specs.Number.{book, first_free, number_for, said_given};
 

@@ -1,5 +1,7 @@
 // Items of a line as text, one line to an item, straight from the bytes that were read into a lent buffer. It leans on crate line for
 // what stands at a position and on crate printed for the line of an item. Document 01, "A small program".
+#![tactic(auto)]
+
 ghost use Rattle.items.specs.Pour.{poured_from, Pours};
 
 use line::{At, Line};

@@ -1,5 +1,7 @@
 // The leads of the three families of frames, the least of a reply, and the most data bytes that a frame carries: each number stands here once.
 // Document 01, "Frames" and "Refusals, by number" (2 and 4).
+#![tactic(auto)]
+
 ghost use Rattle.std.specs.Prelude.{◌≡◌};
 ghost use Rattle.lead.specs.Lead.{is_request, is_reply, is_event};
 

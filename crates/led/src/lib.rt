@@ -1,6 +1,8 @@
 // Parts that are led by their length: two bytes that say how many follow, high byte first, and so many bytes. The records of a capture
 // stand so, one behind the other, and so do the datagrams of a collector's run. It leans on crate order for the number. Document 02, W-207
 // and W-208.
+#![tactic(auto)]
+
 ghost use Rattle.std.specs.Prelude.{◌≡◌, drop};
 ghost use Rattle.refusal.specs.Answer.{is_full};
 ghost use Rattle.led.specs.Led.{said_part, part_at, parts_of};

@@ -1,6 +1,8 @@
 // Bytes in a lent buffer, from a place on: a byte, or those of a run. Each function answers the place behind what it wrote. Where there
 // is no room for the whole of it, it writes nothing and answers the place that it was given. Whatever this codec puts behind other
 // bytes leans on it: frames (crate frame), held bytes (crate reader), text (crate text). It leans on crate refusal for the words of a test.
+#![tactic(auto)]
+
 ghost use Rattle.std.specs.Prelude.{[], ◌∷◌};
 ghost use Rattle.lent.specs.Puts.{Puts};
 

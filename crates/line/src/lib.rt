@@ -1,6 +1,8 @@
 // The request line and the reply line: what the bytes at a position of a line say. One rule serves both lines; a line is its
 // lead, what its first bytes tell of a frame's length (crate extent), and the table of its arguments. It leans on the sum, the
 // commands, their ranges and the words of a stream (crate stream). Document 01, "Reading a line"; document 02, W-202.
+#![tactic(auto)]
+
 ghost use Rattle.std.specs.Prelude.{◌≤◌, ◌≡◌, length};
 ghost use Rattle.extent.specs.Line.{in_table, request_in_table, least_of};
 ghost use Rattle.line.specs.Rule.{settle, frame_item, item_at};

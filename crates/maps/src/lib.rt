@@ -2,6 +2,8 @@
 // order that the maker gave it, and is handed back as one number whose bit k stands for event type, scene, gear or gear
 // type k. It leans on refusal for the words of a test, on order for the numbers of bytes, and on sum for what a run of bytes is.
 // Document 01, "Four orders in reply data".
+#![tactic(auto)]
+
 ghost use Rattle.std.specs.Prelude.{◌≡◌, [], ◌∷◌};
 ghost use Rattle.order.specs.Order.{low_first, number_in};
 ghost use Rattle.maps.specs.Maps.{mask_of, scenes_of, gear_of, types_of, count_of, lowest_of};

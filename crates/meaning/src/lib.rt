@@ -1,6 +1,8 @@
 // What the four arguments of a basic request mean, and typed ways into them: a group number handed over where a line target is
 // wanted does not compile. It leans on crates target and command for targets and rules, and on crate order for numbers of two bytes.
 // Document 01, "Requests and their argument ranges".
+#![tactic(auto)]
+
 ghost use Rattle.std.specs.Prelude.{◌≡◌};
 ghost use Rattle.meaning.specs.Meaning.{meaning_of, said_meaning};
 ghost use Rattle.meaning.specs.Ways.{group_bytes, timers_bytes, group_scene_bytes, inhibit_bytes, last_bytes, target_bytes};

@@ -1,6 +1,8 @@
 // A morning's datagrams in one call: a run of event datagrams, each led by its length, appended to a capture under one time, by the letter
 // and by a mark. It leans on led for how the run is cut, on capture for what is judged of the capture, on append for each datagram.
 // Document 02, W-208.
+#![tactic(auto)]
+
 ghost use Rattle.std.specs.Prelude.{◌≡◌, true};
 ghost use Rattle.led.specs.Led.{parts_of};
 ghost use Rattle.summary.specs.declared.Went.TheVariants.{Well};

@@ -1,5 +1,7 @@
 // Names of numbers as text, for programs that print them: of refusals, commands, types of replies, error codes and types of events. It
 // leans on crate words, which finds a name by its place, on crate lent for what is put from a place on, and on crate frame for what a writer answers.
+#![tactic(auto)]
+
 ghost use Rattle.std.specs.Prelude.{◌≡◌};
 ghost use Rattle.lent.specs.Puts.{Puts};
 ghost use Rattle.frame.specs.Written.{Written};

@@ -1,5 +1,7 @@
 // What the first word of a command line asks for, an option of the program corridor or none, and whether two words are the same. It leans on words for
 // quoted text, on refusal for the words of a test. docs/SHEET.md, "Arguments"; the programs plan and clock ask it for an option, and plan for its files.
+#![tactic(auto)]
+
 ghost use Rattle.std.specs.Prelude.{◌≡◌};
 ghost use Rattle.words.specs.Words.{text};
 ghost use Rattle.options.specs.Option.{is_same, is_option, option_of};

@@ -1,5 +1,7 @@
 // The number that some bytes stand for, in the order in which the maker writes them. Every crate above that makes a number of
 // bytes leans on this one. Document 01, "Frames" and "Four orders in reply data".
+#![tactic(auto)]
+
 ghost use Rattle.std.specs.Prelude.{◌≡◌, [], ◌∷◌};
 ghost use Rattle.order.specs.Order.{high_first, number_in};
 

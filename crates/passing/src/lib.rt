@@ -1,6 +1,8 @@
 // Passing over the good records at the front of some bytes: how many they are, how far they reach, and the tally of them, behind what was
 // passed before. It leans on capture for one record behind another and on tally for the four seasons (crate report takes a capture whole,
 // crate by_parts part by part). Document 02, W-213.
+#![tactic(auto)]
+
 ghost use Rattle.std.specs.Prelude.{◌≡◌};
 ghost use Rattle.event.specs.Layout.{width_of};
 ghost use Rattle.season.specs.Season.{plus};

@@ -1,5 +1,7 @@
 // Checks a contractor's filter plan against the events that are wanted: docs/PLAN.md. It reads its arguments and the two files, and prints what crate
 // plan_told puts of the answers of crates filter_plan and filter_since; crate plan_wanted reads the text of the wanted events.
+#![tactic(auto)]
+
 ghost use Rattle.std.specs.Prelude.{◌≤◌, ◌≡◌, length};
 
 use filter_plan::{Filters, Verdict, Went};

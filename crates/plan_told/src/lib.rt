@@ -2,6 +2,8 @@
 // the filters that are listed behind. It leans on crate filter_text for requests and filters as text, on crate filter_asked for what a request asks, on crate names for the names of numbers, on crate
 // sum for the byte that a request has to end in, on crates lent and text for what is put. docs/PLAN.md, "The answer", "--list" and "Lines on
 // standard error".
+#![tactic(auto)]
+
 ghost use Rattle.std.specs.Prelude.{◌≡◌};
 ghost use Rattle.frame.specs.Frame.{byte};
 ghost use Rattle.lent.specs.All.{PutsAll};

@@ -1,5 +1,7 @@
 // The text that says which events are wanted, read into three bytes for each of them. It leans on crate words for the end of a line, on crate
 // asked for what digits say, on crate lent for what is put into a lent buffer, on crate refusal for the words of a test. docs/PLAN.md, "Files".
+#![tactic(auto)]
+
 ghost use Rattle.std.specs.Prelude.{◌+◌, ◌≤◌, ◌≡◌, length, drop};
 ghost use Rattle.lent.specs.Puts.{Puts};
 ghost use Rattle.plan_wanted.specs.Wanted.{says_of, line_of_lem, told_by, Reads};

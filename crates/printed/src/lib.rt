@@ -1,5 +1,7 @@
 // The line of an item as text, in a lent buffer: its number, how many bytes it has, these in hexadecimal. It leans on crate stream for
 // what an item is, and on crates lent and text for the contract of every text that is put. Document 01, "A small program".
+#![tactic(auto)]
+
 ghost use Rattle.std.specs.Prelude.{◌+◌, ◌*◌, ◌≤◌, ◌<◌, ◌≡◌, length};
 ghost use Rattle.text.specs.Text.{decimal_of};
 ghost use Rattle.lent.specs.Puts.{Puts};

@@ -1,5 +1,7 @@
 // The quiet profile: which commands may be written where a client allows us to ask and never to switch. It leans on crate command for
 // which commands are known. Document 02, W-203.
+#![tactic(auto)]
+
 ghost use Rattle.std.specs.Prelude.{◌≡◌};
 ghost use Rattle.profile.specs.Profile.{is_barred, is_inside, allows};
 

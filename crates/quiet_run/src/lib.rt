@@ -1,6 +1,8 @@
 // The quiet profile over a finished run of requests: whether each item of it is a request inside the profile, and where the first one is
 // that is not. One pass over the bytes, nothing copied. It leans on crate line for what stands at a place and on crate profile for which
 // commands are inside. Document 02, W-203.
+#![tactic(auto)]
+
 ghost use Rattle.std.specs.Prelude.{◌≡◌};
 ghost use Rattle.stream.specs.Stream.{reading, items};
 ghost use Rattle.extent.specs.declared.Line.TheVariants.{Request};

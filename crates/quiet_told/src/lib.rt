@@ -1,5 +1,7 @@
 // The line that answers whether a run is quiet, put into a lent buffer: yes, or the first item that is not, its place, its bytes and why. It leans on
 // crate quiet_run for the first item that is not quiet, and on crates lent and text for what is put. Document 02, W-203.
+#![tactic(auto)]
+
 ghost use Rattle.std.specs.Prelude.{◌≡◌};
 ghost use Rattle.frame.specs.Frame.{byte};
 ghost use Rattle.lent.specs.All.{PutsAll};

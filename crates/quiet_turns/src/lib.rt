@@ -1,6 +1,8 @@
 // The program quiet turn by turn: what it does next after each read, so that a run of any length is checked in constant memory. The program
 // above it only reads, writes and goes by these answers. It leans on crate quiet_run for the scan, on crate turns for what a read makes of what
 // is held, and on crate quiet_told for the line that it answers. Document 02, W-203.
+#![tactic(auto)]
+
 ghost use Rattle.std.specs.Prelude.{◌≤◌, min, ◌≡◌, length};
 ghost use Rattle.quiet_turns.specs.Turn.{start, Onward, Turns};
 

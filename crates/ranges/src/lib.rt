@@ -1,5 +1,7 @@
 // The ranges of a basic request's arguments, one rule for each kind of request. It leans on crate command for the rules, and on crate
 // target for gear, groups and devices. Document 01, "Requests and their argument ranges", and document 02, W-201.
+#![tactic(auto)]
+
 ghost use Rattle.std.specs.Prelude.{◌≡◌};
 ghost use Rattle.ranges.specs.Arguments.{fits as fits_of};
 

@@ -7,6 +7,8 @@
 // - where they do not, these and of the part so many that the line's most held bytes and one are there (68 on a reply line,
 //   13 on a request line), or as many as there are, once into a window; and from there the bytes then read or held, once.
 // A state and an answer hold arrays (67 and 68 bytes), which go by value and are zero behind what they hold.
+#![tactic(auto)]
+
 ghost use Rattle.std.specs.Prelude.{◌≤◌, ◌≡◌, [], length};
 ghost use Rattle.stream.specs.Stream.{More, feed as feedOf};
 ghost use Rattle.extent.specs.Line.{cap_of};

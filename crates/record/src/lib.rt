@@ -1,5 +1,7 @@
 // One record of a capture: read at a place of a run, and put over a lent buffer from a place on. It leans on led for the length, on order
 // for the numbers, on event for the datagram, on lent for the buffer. Document 02, W-207.
+#![tactic(auto)]
+
 ghost use Rattle.std.specs.Prelude.{◌+◌, ◌≤◌, ◌≡◌, length, drop};
 ghost use Rattle.lent.specs.Puts.{Puts};
 ghost use Rattle.event.specs.Layout.{width_of};

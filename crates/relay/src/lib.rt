@@ -2,6 +2,8 @@
 // byte for byte, or 8 where the buffer is too short; else the answer is the reader's refusal. A request that is marked as retired is
 // written no more: 17. No profile is chosen. It leans on crates request, reply and event. Demand 2: "writing a frame that was read gives its bytes back, where the
 // buffer is long enough"; document 02, W-210: "Demand 2's writing half leaves 0A out from then on."
+#![tactic(auto)]
+
 ghost use Rattle.frame.specs.Written.{Written};
 ghost use Rattle.frame.specs.Relay.{relayed};
 ghost use Rattle.profile.specs.declared.Profile.TheVariants.{Open};

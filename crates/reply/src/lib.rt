@@ -1,6 +1,8 @@
 // Replies as single datagrams, read, with their data part and error code (crate writers writes them). It leans on lead for the types and
 // the most data, on error for the names of codes, on sum for the sum.
 // Document 01, "Frames"; source 002, "TPI Advanced Response Frame" and "Error Codes".
+#![tactic(auto)]
+
 ghost use Rattle.std.specs.Prelude.{◌+◌, ◌≡◌};
 ghost use Rattle.refusal.specs.Answer.{full};
 ghost use Rattle.error.specs.Error.{name_of};

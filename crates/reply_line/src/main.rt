@@ -1,6 +1,8 @@
 // Reads a reply line from standard input to its end, and prints a line for each item. It only reads, writes and goes by the answers of
 // crate turns: what any program prints that goes by them is `prints` of its specs/Run. A read or a write that fails ends the run, and
 // standard error says so. Document 01, "A small program".
+#![tactic(auto)]
+
 ghost use Rattle.std.specs.Prelude.{◌≤◌, length};
 ghost use Rattle.reply_line.specs.Room.{RoomBehind, Roomy};
 

@@ -1,5 +1,7 @@
 // The report of one corridor through four seasons, taken of a capture in one pass over its records. It leans on capture for what is judged
 // of it, on passing for the pass, on tally for the four seasons. Document 02, W-213.
+#![tactic(auto)]
+
 ghost use Rattle.std.specs.Prelude.{◌≡◌};
 ghost use Rattle.refusal.specs.Answer.{refused};
 ghost use Rattle.report.specs.Report.{reported, reporting};

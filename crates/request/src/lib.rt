@@ -2,6 +2,8 @@
 // leans on crate command for shapes and lengths, on crate ranges for the ranges, on crate meaning for what arguments say, and on crate
 // colour for colours. Document 01, "Frames" and "Requests and their argument ranges"; document 02, W-202 and W-210; source 002, "Basic
 // Request Frame", "TPI Dynamic Subframe" and "DALI Colour Request Frame".
+#![tactic(auto)]
+
 ghost use Rattle.std.specs.Prelude.{◌≡◌, ◌≤◌, length};
 ghost use Rattle.frame.specs.Frame.{byte};
 ghost use Rattle.command.specs.Command.{is_retired};

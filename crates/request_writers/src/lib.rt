@@ -2,6 +2,8 @@
 // for the lead, on command and ranges for what a basic request may say, on target and colour for a colour request, on profile for which commands
 // may be written, and on frame for the last step of writing. Document 01, "Frames" and "Requests and their argument ranges"; document 02, W-202,
 // W-203 and W-210.
+#![tactic(auto)]
+
 ghost use Rattle.frame.specs.Written.{Written};
 ghost use Rattle.colour.specs.Colour.{said_colour};
 ghost use Rattle.request.specs.Writing.{basic_frame, unicast_frame, colour_frame};

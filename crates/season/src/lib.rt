@@ -1,6 +1,8 @@
 // A season of one corridor: whose events count, in which season a time lies, the gap that an event ends, and what one event more makes of a
 // season. It leans on event for an event and its MAC address, on event_type for its instance, on summary for seconds that may be absent
 // (crate tally has the four of them). Document 02, W-213.
+#![tactic(auto)]
+
 ghost use Rattle.std.specs.Prelude.{◌≡◌};
 ghost use Rattle.event_type.specs.Types.{said_instance};
 ghost use Rattle.event.specs.Reading.{said_event};

@@ -1,5 +1,7 @@
 // The sheet of one corridor as comma-separated values, put into a lent buffer from a place on. It leans on crate figures for where a season
 // begins and ends, on crates lent and text for what is put. docs/SHEET.md, "CSV".
+#![tactic(auto)]
+
 ghost use Rattle.std.specs.Prelude.{◌<◌};
 ghost use Rattle.lent.specs.All.{PutsAll};
 ghost use Rattle.sheet.specs.Csv.{number_field, seconds_field, when_texts, count_texts, gap_texts, row_texts, csv_texts};

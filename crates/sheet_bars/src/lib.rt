@@ -1,5 +1,7 @@
 // The bars of the sheet of one corridor: how many marks a bar of the page has, and a bar of the picture, put into a lent buffer from a place on. It
 // leans on crate figures for shares, on lent and text for what is put. docs/SHEET.md, "`--text`" and `--svg`.
+#![tactic(auto)]
+
 ghost use Rattle.std.specs.Prelude.{◌≤◌, ◌≡◌, [], ◌∷◌};
 ghost use Rattle.text.specs.Text.{decimal_of};
 ghost use Rattle.lent.specs.All.{PutsAll};

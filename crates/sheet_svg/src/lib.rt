@@ -1,6 +1,8 @@
 // The picture of the sheet of one corridor, in SVG: for each season four bars, and below them its name and its times. Everything is put
 // into a lent buffer, from a place on; each function answers the place behind what it put. It leans on crate figures for what the forms of
 // the sheet share, on crate sheet_bars for a bar, on season for a season, on lent and text for what is put. docs/SHEET.md, `--svg`.
+#![tactic(auto)]
+
 ghost use Rattle.std.specs.Prelude.{◌+◌, ◌≡◌};
 ghost use Rattle.lent.specs.Puts.{Puts};
 ghost use Rattle.lent.specs.All.{PutsAll};

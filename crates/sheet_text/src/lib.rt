@@ -1,5 +1,7 @@
 // The sheet of one corridor as a page of text, put into a lent buffer from a place on. It leans on crate figures for times, spans and the
 // title, on crate sheet_bars for how long a bar is, on crates lent and text for what is put. docs/SHEET.md, "`--text`".
+#![tactic(auto)]
+
 ghost use Rattle.std.specs.Prelude.{◌-◌, ◌≤◌, ◌<◌, ◌≡◌, [], ◌∷◌, length, replicate};
 ghost use Rattle.words.specs.Words.{text};
 ghost use Rattle.text.specs.Text.{decimal_of};

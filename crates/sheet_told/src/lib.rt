@@ -1,6 +1,8 @@
 // What the program corridor tells beside its sheet, put into a lent buffer from a place on: why there is no sheet, with the refusal's number,
 // what it means, and where in the capture; and how far it has read. It leans on crate by_parts for what is known of the capture, on crates
 // lent and text for what is put. docs/SHEET.md, "Lines on standard error".
+#![tactic(auto)]
+
 ghost use Rattle.lent.specs.All.{PutsAll};
 ghost use Rattle.sheet_told.specs.Told.{place_texts, bad_texts, level_texts, reason_texts, refused_texts, read_texts};
 

@@ -1,4 +1,6 @@
 // A signed number of 32 bits in decimal, put into a lent buffer from a place on. It leans on crates lent and text, which put the parts of it.
+#![tactic(auto)]
+
 ghost use Rattle.std.specs.Prelude.{◌≡◌, pos, nat_abs};
 ghost use Rattle.std.specs.Int.Signed.{lt_z};
 ghost use Rattle.lent.specs.All.{PutsAll};

@@ -1,5 +1,7 @@
 // The sum of a frame: the exclusive-or of its bytes. Document 01, "Frames": "the exclusive-or of all bytes of a frame,
 // the sum included, is 0. The source also calls it CRC8; it is none."
+#![tactic(auto)]
+
 ghost use Rattle.std.specs.Prelude.{◌+◌, ◌%◌, ◌≤◌, ◌<◌, [], ◌∷◌, ◌≡◌, length, take, drop};
 ghost use Rattle.sum.specs.Sum.{sum_of};
 ghost use Rattle.sum.specs.Lanes.{low, lanes};

@@ -1,5 +1,7 @@
 // The summary that stands beside a capture's records: how many there are, the first and the last seconds, and how many of each event type.
 // It leans on crate event_type for the type. Document 02, W-207.
+#![tactic(auto)]
+
 ghost use Rattle.std.specs.Prelude.{◌≡◌, []};
 ghost use Rattle.event_type.specs.Types.{type_number};
 ghost use Rattle.summary.specs.Summary.{not_before, first_of, slot_of, counted_in, one_more, counting};

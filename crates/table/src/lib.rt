@@ -1,6 +1,8 @@
 // The command rules as one table, to hold beside the maker's list: for each command number the shape of its frame and the rule of its
 // arguments, by their numbers. Document 02, W-209. The names are those of source 002, "Commands", also of commands that are not spoken here.
 // Crate command has the decision of shape and rule by which all else goes; every entry agrees with it.
+#![tactic(auto)]
+
 ghost use Rattle.std.specs.Prelude.{◌≡◌};
 ghost use Rattle.command.specs.Command.{numbers_in};
 ghost use Rattle.table.specs.Table.{numbers_at, numbers_by};

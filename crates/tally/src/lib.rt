@@ -1,5 +1,7 @@
 // The tally of one corridor through four seasons, with one record more. It leans on season for each of them, on event for an event, on
 // event_type for its type (crate report takes the tally of a capture). Document 02, W-213.
+#![tactic(auto)]
+
 ghost use Rattle.std.specs.Prelude.{◌<◌, ◌≡◌};
 ghost use Rattle.event.specs.Reading.{said_event};
 ghost use Rattle.tally.specs.Tally.{changed, noted, one_more, no_tally};

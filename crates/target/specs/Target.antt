@@ -1,9 +1,7 @@
 -- Document 01, "Requests and their argument ranges": "Lighting target: 0–63 gear, 64–79 group number + 64, 127 or 255 broadcast."
 -- "Source 002 keeps three numbers apart: a gear or group target on the line, a bare group number 0–15, and a control device
 -- address, its own number + 64." "there are 16 groups and 64 devices, so 79 and 127 end the ranges."
-use Prim.Native.Nat.{ℕ, _+_, _-_}
-use mathlib.Core.Bool.{Bool, _&&_, _||_}
-use lib.Dec.{leb, eqb}
+use Rattle.std.specs.Prelude.{ℕ, ◌+◌, ◌-◌, Bool, ◌&&◌, ◌||◌, leb, eqb}
 use Rattle.refusal.specs.Test.{pick}
 use Rattle.refusal.specs.Answer.{Answer, refused, full, demand}
 use Rattle.target.specs.declared.LineTarget.{LineTarget}
@@ -74,26 +72,26 @@ aimed b t = pick (is_gear t) (gear t) (pick (is_gear_or_group t) (group (t - bas
 
 -- the target of a lighting command, and that of a query of gear status
 abbrev pub lights_of : LineTarget → Aim
-lights_of t = aimed (is_broadcast (t .0)) (t .0)
+lights_of t = aimed (is_broadcast t.0) t.0
 
 abbrev pub status_of : LineTarget → Aim
-status_of t = aimed (is_status_broadcast (t .0)) (t .0)
+status_of t = aimed (is_status_broadcast t.0) t.0
 
 -- a group on the line is its number + 64; 7 is an argument outside the table
 abbrev pub line_of : group·struct.Group → Answer LineTarget
-line_of g = demand (is_group (g .0)) 7 (full (record { 0 = g .0 + base }))
+line_of g = demand (is_group g.0) 7 (full (record { 0 = g.0 + base }))
 
 -- a device's address is its own number + 64
 abbrev pub device_of : ℕ → Answer Device
 device_of n = demand (leb n last_number) 7 (full (record { 0 = n + base }))
 
 abbrev pub device_number : Device → Answer ℕ
-device_number a = demand (is_device (a .0)) 7 (full (a .0 - base))
+device_number a = demand (is_device a.0) 7 (full (a.0 - base))
 
 -- document 01's number and values for each case of an answer
 abbrev pub said_target : Target → Aim
 said_target (Gear n) = gear n
-said_target (Group g) = group (g .0)
+said_target (Group g) = group g.0
 said_target Broadcast = broadcast
 said_target Nothing = no_target
 

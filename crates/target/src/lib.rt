@@ -1,7 +1,9 @@
 // Three numbers that source 002 keeps apart: a gear or group target on the line, a bare group number, and a control device
 // address. Each is a type of its own, so that a group number handed over as a line target does not compile.
 // Document 01, "Requests and their argument ranges".
-ghost use mathlib.Core.Path.{_≡_};
+#![tactic(auto)]
+
+ghost use Rattle.std.specs.Prelude.{◌≡◌};
 ghost use Rattle.target.specs.Target.{is_lighting, said_target, said_line, said_device, said_number, line_of, lights_of, status_of, device_of, device_number};
 
 // "0–63 gear": the last gear.
@@ -68,7 +70,7 @@ pub enum Numbered {
 
 // Whether a number is a lighting target.
 pub fn is_lighting(a: u8) -> bool
-    ensures { λ r. ⌜ r ≡ is_lighting a ⌝ }
+    ensures { result ≡ is_lighting a }
 {
     (a <= LAST_TARGET) | ((a == LOW_BROADCAST) | (a == BROADCAST))
 }
@@ -76,7 +78,7 @@ pub fn is_lighting(a: u8) -> bool
 impl Group {
     // The group as a target on the line; 7 where there is no such group.
     pub fn line_target(self) -> OnLine
-        ensures { λ r. ⌜ said_line r ≡ line_of self ⌝ }
+        ensures { said_line result ≡ line_of self }
     {
         let g = self.0;
         if LAST_GROUP < g {
@@ -89,7 +91,7 @@ impl Group {
 impl LineTarget {
     // What a lighting command with this target lights.
     pub fn lights(self) -> Target
-        ensures { λ r. ⌜ said_target r ≡ lights_of self ⌝ }
+        ensures { said_target result ≡ lights_of self }
     {
         let t = self.0;
         if t <= LAST_GEAR {
@@ -109,7 +111,7 @@ impl LineTarget {
 
     // What a query of gear status (AB) with this target asks about: its broadcast is 81.
     pub fn status(self) -> Target
-        ensures { λ r. ⌜ said_target r ≡ status_of self ⌝ }
+        ensures { said_target result ≡ status_of self }
     {
         let t = self.0;
         if t <= LAST_GEAR {
@@ -128,7 +130,7 @@ impl LineTarget {
 impl Device {
     // The address of the control device with this number of its own, 0 to 63; 7 where there is no such device.
     pub fn of(number: u8) -> Addressed
-        ensures { λ r. ⌜ said_device r ≡ device_of number ⌝ }
+        ensures { said_device result ≡ device_of number }
     {
         if LAST_NUMBER < number {
             return Addressed::Refused(7);
@@ -138,7 +140,7 @@ impl Device {
 
     // The device's own number; 7 where this is no control device address.
     pub fn number(self) -> Numbered
-        ensures { λ r. ⌜ said_number r ≡ device_number self ⌝ }
+        ensures { said_number result ≡ device_number self }
     {
         let a = self.0;
         if a < BASE {

@@ -2,6 +2,8 @@
 // behind what it wrote; where there is no room for the whole of it, it writes nothing and answers the place that it was given
 // (crate lent, whose contract it has); of a run this goes for each byte. It is what a program's output is made of: document 01, "A small program". Beside it what a
 // hexadecimal digit says, for what is read.
+#![tactic(auto)]
+
 ghost use Rattle.std.specs.Prelude.{◌/◌, ◌%◌, ◌<◌, ◌≡◌, length};
 ghost use Rattle.text.specs.Text.{digit as digit_of, digit_of as digitValue, hex_of, hex_texts, decimal_of};
 ghost use Rattle.lent.specs.All.{PutsAll};

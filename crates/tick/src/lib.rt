@@ -1,4 +1,6 @@
 // Ticks: a clock of 32 bits that runs round past its end, and how long ago something was by it. Document 02, W-205.
+#![tactic(auto)]
+
 ghost use Rattle.std.specs.Prelude.{◌≡◌};
 ghost use Rattle.tick.specs.Age.{age_of, is_over};
 

@@ -1,6 +1,8 @@
 // The small program turn by turn: what it does next, and what a read makes of what it holds. The program above it only reads, writes
 // and goes by these answers. It leans on crate items for the text. Document 01, "A small program": "It reads a reply line from standard
 // input to its end and prints one line for each item".
+#![tactic(auto)]
+
 ghost use Rattle.std.specs.Prelude.{◌+◌, min, ◌≡◌};
 ghost use Rattle.turns.specs.Keep.{Keeps};
 ghost use Rattle.turns.specs.Turn.{start, Turns, said_after, read_after};

@@ -3,6 +3,8 @@
 // and 0 stands for none; every other field of a refused call is 0, but for a mark, bytes in use and a summary that were handed in.
 // include/wickanchor.h declares them for C. Each function hands on what the crate of its subject answers, as crates c_requests, c_datagrams,
 // c_values, c_capture, c_seasons, c_plan and c_clock put it, and its contract cites that crate's definition.
+#![tactic(auto)]
+
 ghost use Rattle.std.specs.Prelude.{◌≡◌, not, [], ◌∷◌, eqb};
 ghost use Rattle.refusal.specs.Test.{flag};
 ghost use Rattle.sum.specs.Sum.{sum_of};

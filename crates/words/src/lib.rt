@@ -1,5 +1,7 @@
 // The words of a run of bytes, parted by a byte: where one ends, and one of them, by its number from 0, put into a lent buffer. It leans
 // on crate lent, and on crate refusal for the words of a test.
+#![tactic(auto)]
+
 ghost use Rattle.std.specs.Prelude.{◌+◌, ◌≤◌, ◌≡◌, length, drop};
 ghost use Rattle.lent.specs.Puts.{Puts};
 ghost use Rattle.words.specs.Words.{before, first_in, word_in};

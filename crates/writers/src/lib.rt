@@ -1,6 +1,8 @@
 // Replies and events written into a lent buffer, each by the layout of its family (crates reply and event have the definitions; crate request_writers
 // writes requests). It leans on lead for the leads and the most data, and on frame for the last step of writing. Document 01, "Frames"; document
 // 02, W-206.
+#![tactic(auto)]
+
 ghost use Rattle.std.specs.Prelude.{suc, ◌+◌, ◌^◌, ◌≡◌, [], ◌∷◌, ◌++◌, take};
 ghost use Rattle.order.specs.Big.{big_bytes};
 ghost use Rattle.frame.specs.Written.{Written};
