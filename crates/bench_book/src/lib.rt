@@ -12,7 +12,7 @@ use bench_say::Pieces;
 use book::{Book, Freed, Given, Timed};
 
 // What a call of this family answers: how many requests were given up is a number alone. A book that is shown is the one that the call leaves.
-#[derive(Drop)]
+#[derive(Clone, Copy)]
 pub enum Page {
     Done,
     Number(Given),

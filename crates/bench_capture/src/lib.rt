@@ -19,7 +19,7 @@ use morning::{Ran, RanAt};
 use summary::{Counting, Seconds, Summary, Went};
 
 // What is carried of a capture beside the bytes of its buffer: how many these are, how many are claimed to be in use, a mark, a summary.
-#[derive(Drop)]
+#[derive(Clone, Copy)]
 pub struct Carried {
     pub size: usize,
     pub used: usize,

@@ -14,7 +14,7 @@ use frame::Wrote;
 use reply::Code;
 
 // What a call that reads a reply, an event or a part of one answers.
-#[derive(Drop)]
+#[derive(Clone, Copy)]
 pub enum Read {
     Reply(reply::Reading),
     Code(Code),

@@ -15,7 +15,7 @@ use request::{Contents, Reading};
 use target::Target;
 
 // What a call of this family answers.
-#[derive(Drop)]
+#[derive(Clone, Copy)]
 pub enum Asked {
     Reading(Reading),
     Target(Target),

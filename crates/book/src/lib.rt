@@ -18,7 +18,7 @@ pub struct Timed {
 }
 
 // What a reply answers: the command asked under its sequence number, or the number of its refusal.
-#[derive(Drop)]
+#[derive(Clone, Copy)]
 pub enum Freed {
     Command(u8),
     Refused(u8),

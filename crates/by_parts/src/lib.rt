@@ -23,14 +23,14 @@ use summary::Went;
 pub const ROOM: usize = 67;
 
 // Bytes in front, and how many they are. What lies behind them is 0 in every state that a call leaves, and is not looked at.
-#[derive(Drop)]
+#[derive(Clone, Copy)]
 pub struct Held {
     pub bytes: [u8; ROOM],
     pub len: usize,
 }
 
 // What is known of a capture so far: not a byte of it; its layout, and only good records; or that it is refused.
-#[derive(Drop)]
+#[derive(Clone, Copy)]
 pub enum Stage {
     Fresh,
     Of(Layout),

@@ -52,6 +52,7 @@ pub struct WickCode {
 }
 
 // The MAC address of a controller, in the order in which it is written.
+#[derive(Clone, Copy)]
 #[repr(C)]
 #[derive(Drop)]
 pub struct WickMac {

@@ -17,6 +17,7 @@ use season::{Boundaries, Corridor, Season};
 use tally::Tally;
 
 // Whose events are reported: one controller, one target and one instance.
+#[derive(Clone, Copy)]
 #[repr(C)]
 #[derive(Drop)]
 pub struct WickCorridor {
@@ -26,6 +27,7 @@ pub struct WickCorridor {
 }
 
 // Where the second, the third and the fourth season begin, in seconds.
+#[derive(Clone, Copy)]
 #[repr(C)]
 #[derive(Drop)]
 pub struct WickBoundaries {
@@ -35,6 +37,7 @@ pub struct WickBoundaries {
 }
 
 // A season: how many events of the three types lie in it, the longest gap, the total of the gaps and their number.
+#[derive(Clone, Copy)]
 #[repr(C)]
 #[derive(Drop)]
 pub struct WickSeason {
@@ -58,6 +61,7 @@ pub struct WickSeasons {
 // A report between two parts of a capture: whose it is; the number of its stage, and that of a refusal beside it; the good records that were
 // passed, how many bytes they have, and the last one's seconds; the tally of them, with the seconds of the last occupied event; and how many
 // bytes are held of the next, these in front.
+#[derive(Clone, Copy)]
 #[repr(C)]
 #[derive(Drop)]
 pub struct WickSeasonsState {

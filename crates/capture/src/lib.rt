@@ -21,7 +21,7 @@ pub const THREE: u8 = 1;
 pub const TWO: u8 = 2;
 
 // How many bytes of a capture are in use, and its last record's seconds.
-#[derive(Drop)]
+#[derive(Clone, Copy)]
 pub struct Mark {
     pub used: usize,
     pub last: Seconds,

@@ -17,7 +17,7 @@ const LAST_YEAR: u16 = 2099;
 const LAST_WEEKDAY: u8 = 6;
 
 // A date that is given, with its weekday: no numbers are refused here.
-#[derive(Drop)]
+#[derive(Clone, Copy)]
 pub struct Given {
     pub year: u16,
     pub month: u8,
@@ -26,7 +26,7 @@ pub struct Given {
 }
 
 // What a clock does on a day: it runs, at a second from midnight, which an offset may have carried below 0 or past 86,399; or it does not; or a refusal.
-#[derive(Drop)]
+#[derive(Clone, Copy)]
 pub enum Run {
     At(i32),
     Idle,

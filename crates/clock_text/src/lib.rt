@@ -21,7 +21,7 @@ const MONTHS: u8 = 12;
 const YEARS: u8 = 99;
 
 // A time of day, and a span of an offset.
-#[derive(Drop)]
+#[derive(Clone, Copy)]
 pub struct Time {
     pub hour: u8,
     pub minute: u8,
@@ -29,7 +29,7 @@ pub struct Time {
 }
 
 // "an offset for astronomical clocks, which may be negative": later postpones, earlier anticipates.
-#[derive(Drop)]
+#[derive(Clone, Copy)]
 pub enum Offset {
     Absent,
     Later(Time),
@@ -38,7 +38,7 @@ pub enum Offset {
 
 // A clock: its time, the bits of its weekdays (01 is Sunday, 80 switches it off), day, month and year of its restriction, each 0 for none,
 // and its offset, which an astronomical clock has.
-#[derive(Drop)]
+#[derive(Clone, Copy)]
 pub struct Clock {
     pub time: Time,
     pub weekdays: u8,

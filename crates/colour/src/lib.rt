@@ -6,7 +6,7 @@
 ghost use Rattle.std.specs.Prelude.{◌≡◌};
 ghost use Rattle.colour.specs.Colour.{said_colour, said, read_colour, data_of};
 
-#[derive(Drop)]
+#[derive(Clone, Copy)]
 pub enum Colour {
     // 10
     Xy {

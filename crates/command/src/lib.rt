@@ -9,7 +9,7 @@ ghost use Rattle.command.specs.Colours.{data_bytes};
 
 // The rule of a basic request's four arguments, named for what they say; crate ranges has the ranges. The commands that have it stand
 // beside it.
-#[derive(Drop)]
+#[derive(Clone, Copy)]
 pub enum Rule {
     // 01, 1A
     Group,

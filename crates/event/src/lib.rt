@@ -17,7 +17,7 @@ const TARGET_AT: usize = 8;
 
 // The layout of an event datagram, by the bytes of its target: three in source 002's table; two of other controllers, so that all behind it
 // stands one place earlier (document 02, W-206). No byte of a datagram says which it is, so the caller does.
-#[derive(Drop)]
+#[derive(Clone, Copy)]
 pub enum Layout {
     Three,
     Two,
@@ -46,11 +46,11 @@ impl Layout {
 }
 
 // The MAC address of a controller, in the order in which it is written.
-#[derive(Drop)]
+#[derive(Clone, Copy)]
 pub struct Mac(pub u8, pub u8, pub u8, pub u8, pub u8, pub u8);
 
 // An event: the controller's MAC address, the target as a number, the type, how many data bytes it has, and the instance.
-#[derive(Drop)]
+#[derive(Clone, Copy)]
 pub struct Event {
     pub mac: Mac,
     pub target: u32,
@@ -60,7 +60,7 @@ pub struct Event {
 }
 
 // What reading an event datagram answers.
-#[derive(Drop)]
+#[derive(Clone, Copy)]
 pub enum Reading {
     Accepted(Event),
     Refused(u8),

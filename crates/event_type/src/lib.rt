@@ -5,7 +5,7 @@ ghost use Rattle.std.specs.Prelude.{◌≡◌};
 ghost use Rattle.event_type.specs.Types.{said_type, kind_of, type_number, carries, said_instance, instance_of};
 
 // An event's type: types 0 to 9 by source 002's names, in its order; another keeps its number.
-#[derive(Drop)]
+#[derive(Clone, Copy)]
 pub enum EventType {
     ButtonPress,
     ButtonHold,
@@ -21,7 +21,7 @@ pub enum EventType {
 }
 
 // The instance number, where the type carries one.
-#[derive(Drop)]
+#[derive(Clone, Copy)]
 pub enum Instance {
     Number(u8),
     Absent,

@@ -9,7 +9,7 @@ ghost use Rattle.extent.specs.Line.{is_lead, length_extent, request_extent, repl
 
 use command::Shape;
 
-#[derive(Drop)]
+#[derive(Clone, Copy)]
 pub enum Line {
     Request,
     Reply,

@@ -20,6 +20,7 @@ const LAST_TYPE: u8 = 15;
 
 // The events of an address and an instance, and the mask of the types that are hidden: bit k stands for type k. It is laid out as C does, so that
 // crate c_plan hands it on as it is.
+#[derive(Clone, Copy)]
 #[repr(C)]
 #[derive(Drop)]
 pub struct Filter {

@@ -28,7 +28,7 @@ const NONE: Filter = Filter {
 };
 
 // A controller's filters: the first of these entries, as many as the count says, in the order in which they were made.
-#[derive(Drop)]
+#[derive(Clone, Copy)]
 pub struct Filters {
     pub entries: [Filter; MOST],
     pub count: usize,

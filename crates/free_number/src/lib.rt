@@ -17,7 +17,7 @@ pub struct Book {
 pub const VACANT: u8 = 0;
 
 // What asking answers: the sequence number for the request, or the number of its refusal.
-#[derive(Drop)]
+#[derive(Clone, Copy)]
 pub enum Given {
     Number(u8),
     Refused(u8),

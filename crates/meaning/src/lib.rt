@@ -11,7 +11,7 @@ use command::Rule;
 use target::{Device, Group, LineTarget, Target};
 
 // The four argument bytes of a basic request, as they stand in it.
-#[derive(Drop)]
+#[derive(Clone, Copy)]
 pub struct Arguments {
     pub a: u8,
     pub b: u8,
@@ -20,7 +20,7 @@ pub struct Arguments {
 }
 
 // What the arguments of a basic request mean, as far as its command has them.
-#[derive(Drop)]
+#[derive(Clone, Copy)]
 pub enum Meaning {
     Nothing,
     Group(Group),

@@ -27,7 +27,7 @@ pub const HELD_ROOM: usize = line::REPLY_LONGEST - 1;
 
 // A reader between two calls: how many bytes it holds, and these in front. What lies behind them is 0 in every state that
 // a call leaves, and is not looked at.
-#[derive(Drop)]
+#[derive(Clone, Copy)]
 pub struct Held {
     pub bytes: [u8; HELD_ROOM],
     pub len: usize,

@@ -17,7 +17,7 @@ pub const DATA_AT: usize = 3;
 const ERROR: u8 = 0xA3;
 
 // A reply: its type, A0 OK, A1 ANSWER, A2 NO_ANSWER or A3 ERROR, its sequence number, and how many data bytes it has.
-#[derive(Drop)]
+#[derive(Clone, Copy)]
 pub struct Reply {
     pub kind: u8,
     pub sequence: u8,
@@ -25,14 +25,14 @@ pub struct Reply {
 }
 
 // What reading a reply datagram answers.
-#[derive(Drop)]
+#[derive(Clone, Copy)]
 pub enum Reading {
     Accepted(Reply),
     Refused(u8),
 }
 
 // The error code of a reply: with the number of its name, kept as a number, or absent.
-#[derive(Drop)]
+#[derive(Clone, Copy)]
 pub enum Code {
     Named { code: u8, name: u8 },
     Number(u8),

@@ -17,11 +17,11 @@ use meaning::{Arguments, Meaning};
 use target::{LineTarget, Target};
 
 // An IPv4 address, in the order in which it is written.
-#[derive(Drop)]
+#[derive(Clone, Copy)]
 pub struct Ipv4(pub u8, pub u8, pub u8, pub u8);
 
 // What a request holds behind its header. A colour request keeps its target beside what that lights: 127 and 255 are both broadcast.
-#[derive(Drop)]
+#[derive(Clone, Copy)]
 pub enum Contents {
     Basic {
         arguments: Arguments,
@@ -40,7 +40,7 @@ pub enum Contents {
 }
 
 // A request that was read. One whose command is retired is "marked as retired" and reads as before.
-#[derive(Drop)]
+#[derive(Clone, Copy)]
 pub struct Request {
     pub sequence: u8,
     pub command: u8,
@@ -49,7 +49,7 @@ pub struct Request {
 }
 
 // What reading a request datagram answers.
-#[derive(Drop)]
+#[derive(Clone, Copy)]
 pub enum Reading {
     Accepted(Request),
     Refused(u8),

@@ -24,7 +24,7 @@ const HOLD: u8 = 1;
 const MOST: u64 = 18446744073709551615;
 
 // "one controller MAC, one target and one instance". No number of them is refused: where no event is of it, all counts are 0.
-#[derive(Drop)]
+#[derive(Clone, Copy)]
 pub struct Corridor {
     pub mac: Mac,
     pub target: u32,
@@ -32,7 +32,7 @@ pub struct Corridor {
 }
 
 // "three rising season boundaries in seconds".
-#[derive(Drop)]
+#[derive(Clone, Copy)]
 pub struct Boundaries {
     pub first: u32,
     pub second: u32,
@@ -41,7 +41,7 @@ pub struct Boundaries {
 
 // What is reported of a season: how many events of the three types lie in it; the longest gap from one occupied event to the next, both
 // lying in it, or none; and for the mean gap the total of the gaps and their number.
-#[derive(Drop)]
+#[derive(Clone, Copy)]
 pub struct Season {
     pub occupied: u64,
     pub presses: u64,

@@ -18,7 +18,7 @@ use summary::Seconds;
 const HIGH: u8 = 240;
 
 // What the highest bars stand for: the greatest of the twelve counts, and the longest of the longest gaps.
-#[derive(Drop)]
+#[derive(Clone, Copy)]
 struct Scale {
     pub most: u64,
     pub longest: Seconds,

@@ -14,14 +14,14 @@ pub const COUNTS: usize = 11;
 const MOST: u32 = 4294967295;
 
 // A time in seconds, or none.
-#[derive(Drop)]
+#[derive(Clone, Copy)]
 pub enum Seconds {
     Absent,
     At(u32),
 }
 
 // The summary of some records. It goes by value.
-#[derive(Drop)]
+#[derive(Clone, Copy)]
 pub struct Summary {
     pub records: u32,
     pub first: Seconds,

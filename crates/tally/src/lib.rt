@@ -15,7 +15,7 @@ pub const SEASONS: usize = 4;
 
 // The tally of some records: the four seasons, and the seconds of the last occupied event of the corridor, from which the next gap is
 // counted. It goes by value.
-#[derive(Drop)]
+#[derive(Clone, Copy)]
 pub struct Tally {
     pub seasons: [Season; SEASONS],
     pub last: Seconds,

@@ -29,19 +29,19 @@ const BROADCAST: u8 = 255;
 pub const STATUS_BROADCAST: u8 = 81;
 
 // A target on the line: 0 to 63 gear, 64 to 79 group number + 64, 127 or 255 broadcast.
-#[derive(Drop)]
+#[derive(Clone, Copy)]
 pub struct LineTarget(pub u8);
 
 // A bare group number, 0 to 15.
-#[derive(Drop)]
+#[derive(Clone, Copy)]
 pub struct Group(pub u8);
 
 // A control device address, 64 to 127: the device's own number + 64.
-#[derive(Drop)]
+#[derive(Clone, Copy)]
 pub struct Device(pub u8);
 
 // What a line target names.
-#[derive(Drop)]
+#[derive(Clone, Copy)]
 pub enum Target {
     Gear(u8),
     Group(Group),
