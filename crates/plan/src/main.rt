@@ -72,13 +72,18 @@ fn complain_of(rt: &HostRuntime, word: &[u8], what: &[u8]) {
     let _ = err.write_all(what);
 }
 
-// What the system says of an error, put at the start of a text, and how many bytes that are. (std puts the error's number in brackets behind it,
-// which is left out.)
-fn said(e: &io::Error, text: &mut [u8; SAID]) -> usize
-    ensures { result ≤ 128 }
-{
-    let mut rest: &mut [u8] = text;
+// What std says of an error, and zeros behind it: the system's text, and in brackets the error's number.
+fn text_of(e: &io::Error) -> [u8; SAID] {
+    let mut text = [0u8; SAID];
+    let mut rest: &mut [u8] = &mut text;
     let _ = write!(rest, "{e}");
+    text
+}
+
+// How many bytes the system's text has there.
+fn said(text: &[u8]) -> usize
+    ensures { result ≤ length text.now }
+{
     let end = words::until(text, 0, 0);
     let n = words::until(text, 0, b'(');
     if (n < end) & (0 < n) {
@@ -89,8 +94,8 @@ fn said(e: &io::Error, text: &mut [u8; SAID]) -> usize
 
 // One that tells of a file what the system says of an error.
 fn fail(rt: &HostRuntime, what: &[u8], word: &[u8], e: &io::Error) {
-    let mut text = [0u8; SAID];
-    let n = said(e, &mut text);
+    let text = text_of(e);
+    let n = said(&text);
     let err = rt.stderr();
     let _ = err.write_all(what);
     let _ = err.write_all(word);
