@@ -51,6 +51,9 @@ def main():
         for part in ("src", "specs", "proofs"):
             shutil.rmtree(f"{top}/crates/target/{part}", ignore_errors=True)
             shutil.copytree(f"{work}/crates/targetx/{part}", f"{top}/crates/target/{part}")
+    # tools/respell.py had not seen this crate's names: two definitions lineOf of other crates got the ending of a lemma
+    files = [p for p in glob.glob("crates/**/*", recursive=True) + glob.glob("docs/*.md") if p.endswith((".antt", ".rt", ".edit", ".md"))]
+    change(files, r"\bline_of_lem\b", "line_of")
 
 
 def change(files, old, new):
