@@ -1,4 +1,4 @@
-// The codec for programs in C and Rust: `rt staticlib wickanchor` makes a static library of the functions below, for x86-64. A run of
+// The codec for programs in C and Rust: `rt lib` makes out/libwickanchor.a of the functions below, a static library for x86-64. A run of
 // bytes is a pointer and then a length; a result is a struct by value, laid out as C does. A refusal is its number by documents 01 and 02,
 // and 0 stands for none; every other field of a refused call is 0, but for a mark, bytes in use and a summary that were handed in.
 // include/wickanchor.h declares them for C. Each function hands on what the crate of its subject answers, as crates c_requests, c_datagrams,
