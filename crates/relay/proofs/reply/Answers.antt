@@ -4,7 +4,8 @@ use native.Mathlib.Omega.{arith}
 use Rattle.refusal.specs.Answer.{full, told}
 use Rattle.sum.specs.Bytes.{Bytes}
 use Rattle.reply.specs.Reading.{read_reply, said}
-use Rattle.reply.specs.Fits.{read_fits, read_again}
+use Rattle.reply.proofs.Replies.{read_again}
+use Rattle.reply.specs.Fits.{read_fits}
 use Rattle.relay.proofs.reply.Goals as goal
 
 pub overflow_add-end : goal.overflow_add-end

@@ -1,6 +1,6 @@
 use Rattle.refusal.specs.Answer.{told}
 use Rattle.request.specs.Said.{said, said_request}
-use Rattle.request.specs.Demand2.{relays}
+use Rattle.request.proofs.Demand2.{relays}
 use native.Mathlib.Omega.{arith}
 use Rattle.relay.proofs.request.Goals as goal
 

@@ -5,7 +5,7 @@ use Rattle.std.proofs.Common.{sym, ap, ◌∙◌, append_assoc, append-nil, leng
 use Rattle.refusal.specs.Answer.{Answer, refused, full}
 use Rattle.sum.specs.Bytes.{Bytes}
 use Rattle.led.specs.Led.{parts_of}
-use Rattle.led.specs.Parts.{AllBytes, parts_bytes}
+use Rattle.led.proofs.Parts.{AllBytes, parts_bytes}
 use Rattle.summary.specs.declared.Summary.{Summary}
 use Rattle.summary.specs.declared.Went.{Went}
 use Rattle.summary.specs.declared.Went.TheVariants.{Well, Refused}
@@ -16,7 +16,7 @@ use Rattle.year.specs.Runs.{Call, goes_in, Grown, then_appended, Afresh, summary
 use Rattle.morning.specs.declared.Ran.{Ran}
 use Rattle.morning.specs.declared.RanAt.{RanAt}
 use Rattle.morning.specs.Morning.{Stand, single, singles, begins, entered_by, StandAt, ran, ran_out, ran_left, ran_at, ran_at_out, ran_at_left}
-use Rattle.morning.specs.Singly.{run_all, plainly, AsLetter, run_by_mark}
+use Rattle.morning.proofs.Singly.{run_all, plainly, AsLetter, run_by_mark}
 
 -- a morning: seconds and a run, in 32 bits and bytes
 pub record Morning : Type 0 where

@@ -10,7 +10,7 @@ use Rattle.order.specs.Big.{big_bytes}
 use Rattle.order.specs.Numbers.{length_big, number_of_bytes, bytes_of_number}
 use Rattle.led.specs.Led.{length_in, part_at, with_part, parts_up_to, parts_of}
 use Rattle.led.specs.Cut.{follows, part_there}
-use Rattle.led.specs.Parts.{parts_end, parts_next, with_full, up_to_cases}
+use Rattle.led.proofs.Parts.{parts_end, parts_next, with_full, up_to_cases}
 
 -- some parts, each behind its length
 unfoldable pub joined : List (List ℕ) → List ℕ

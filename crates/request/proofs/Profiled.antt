@@ -19,8 +19,8 @@ use Rattle.colour.specs.Colour.{Hue, type_of, is_colour}
 use Rattle.ranges.specs.Arguments.{fits}
 use Rattle.request.specs.Layout.{Fields, basic, unicast, colour, command_in, layout}
 use Rattle.request.specs.Writing.{basic_of, unicast_frame, colour_frame, frame_of}
-use Rattle.request.specs.Retired.{heard_command, heard_fields}
-use Rattle.request.specs.Demand2.{requests}
+use Rattle.request.proofs.Retired.{heard_command, heard_fields}
+use Rattle.request.proofs.Demand2.{requests}
 use Rattle.request.specs.declared.Ipv4.{Ipv4}
 
 -- a frame that would be written, but for the profile

@@ -7,7 +7,7 @@ use Rattle.refusal.specs.Test.{clash}
 use Rattle.refusal.specs.Answer.{Answer, refused, full, is_full}
 use Rattle.sum.specs.Bytes.{Bytes}
 use Rattle.led.specs.Led.{parts_of}
-use Rattle.led.specs.Parts.{parts_15, parts_bytes}
+use Rattle.led.proofs.Parts.{parts_15, parts_bytes}
 use Rattle.event.specs.declared.Layout.{Layout}
 use Rattle.summary.specs.declared.Summary.{Summary}
 use Rattle.summary.specs.declared.Went.TheVariants.{Well}
@@ -17,7 +17,7 @@ use Rattle.year.specs.Marks.{open_marks}
 use Rattle.morning.specs.declared.Ran.{Ran}
 use Rattle.morning.specs.declared.RanAt.{RanAt}
 use Rattle.morning.specs.Morning.{singles, begins, StandAt, singles_at, begins_at, ran, ran_out, Runs, ran_at, ran_at_out, RunsAt}
-use Rattle.morning.specs.Singly.{plain, singles_alike}
+use Rattle.morning.proofs.Singly.{plain, singles_alike}
 use Rattle.morning.specs.Going.{parts_in, all_of}
 
 -- the parts of a run that is whole

@@ -2,17 +2,17 @@
 use Rattle.profile.specs.declared.Profile.TheVariants.{Open}
 use Rattle.request.specs.Said as request
 use Rattle.request.specs.Reading.{read_request}
-use Rattle.request.specs.Demand2.{requests}
+use Rattle.request.proofs.Demand2.{requests}
 use Rattle.reply.specs.Reading as reply
 use Rattle.reply.specs.Reading.{read_reply}
-use Rattle.reply.specs.Demand2.{replies}
+use Rattle.reply.proofs.Replies.{replies}
 use Rattle.event.specs.declared.Layout.{Layout}
 use Rattle.event.specs.Layout.{width_of}
 use Rattle.event.specs.Reading as event
 use Rattle.event.specs.Reading.{read_event}
 use Rattle.event.specs.Demand2.{published}
 use Rattle.change.specs.Excludes.{Excludes}
-use Rattle.change.specs.Law.{excludes}
+use Rattle.change.proofs.Excluding.{excludes}
 
 -- requests, colour requests among them
 pub requests_exclude : Excludes request.said read_request

@@ -6,7 +6,7 @@ use Rattle.refusal.specs.Test.{clash}
 use Rattle.refusal.specs.Answer.{Answer, refused, full, full_one}
 use Rattle.sum.specs.Bytes.{Bytes}
 use Rattle.led.specs.Led.{parts_of}
-use Rattle.led.specs.Parts.{AllBytes, parts_bytes}
+use Rattle.led.proofs.Parts.{AllBytes, parts_bytes}
 use Rattle.event.specs.declared.Layout.{Layout}
 use Rattle.summary.specs.declared.Summary.{Summary}
 use Rattle.summary.specs.declared.Went.{Went}

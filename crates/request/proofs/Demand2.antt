@@ -41,7 +41,7 @@ use Rattle.request.specs.Reading.{basic_heard, unicast_heard, colour_heard, read
 use Rattle.request.specs.Reads.{basic_accepts, unicast_accepts, shape_read}
 use Rattle.request.specs.Coloured.{part_length, colour_accepts}
 use Rattle.request.specs.Writing.{basic_of, colour_frame, writer_of, frame_of, handed_on}
-use Rattle.request.specs.Retired.{heard_fields, retired_read, retired_refused, written_current}
+use Rattle.request.proofs.Retired.{heard_fields, retired_read, retired_refused, written_current}
 
 -- the frame of a colour request has the bytes of its type, and its colour data is that of its colour
 colour_length : (s a l k : ℕ) (vs : List ℕ) → fitting (widths_of k) vs ≡ true → length (layout (colour s a l (hue k vs))) ≡ colour_bytes k
