@@ -11,16 +11,7 @@ use Rattle.order.specs.Numbers.{length_big, number_of_bytes, bytes_of_number}
 use Rattle.led.specs.Led.{length_in, part_at, with_part, parts_up_to, parts_of}
 use Rattle.led.specs.Cut.{follows, part_there}
 use Rattle.led.proofs.Parts.{parts_end, parts_next, with_full, up_to_cases}
-
--- some parts, each behind its length
-unfoldable pub joined : List (List ℕ) → List ℕ
-joined [] = []
-joined (p ∷ ps) = big_bytes 2 (length p) ++ (p ++ joined ps)
-
--- of which the length has room
-abbrev pub Short : List (List ℕ) → Type 0
-Short [] = Unit {0}
-Short (p ∷ ps) = (length p < 65536) × Short ps
+use Rattle.led.specs.Joined.{joined, Short}
 
 part_joined : (p s : List ℕ) → length p < 65536 → part_at (big_bytes 2 (length p) ++ (p ++ s)) ≡ full (length p)
 part_joined p s h =

@@ -6,6 +6,7 @@ use Rattle.refusal.specs.Answer.{Answer, refused, full, is_full, full_one}
 use Rattle.sum.specs.Bytes.{Bytes, bytes_take, bytes_drop}
 use Rattle.led.specs.Led.{part_at, with_part, parts_up_to, parts_of}
 use Rattle.led.specs.Cut.{part_there, part_15}
+use Rattle.led.specs.Parts.{AllBytes}
 
 -- what a run begins with: a part, none that is there, or its end
 up_to_next : (m : ℕ) (s : List ℕ) (n : ℕ) → part_at s ≡ full n → parts_up_to (suc m) s ≡ with_part (take n (drop 2 s)) (parts_up_to m (drop (2 + n) s))
@@ -99,11 +100,6 @@ parts_15 s e = go (parts_of s) refl e
     go : (a : Answer (List (List ℕ))) → parts_of s ≡ a → is_full a ≡ false → a ≡ refused 15
     go (refused k) f e = ap (λ (k : ℕ). refused k) (up_to_15 (length s) s k f)
     go (full ps) f e = clash (cc)
-
--- the parts of a run of bytes are bytes
-abbrev pub AllBytes : List (List ℕ) → Type 0
-AllBytes [] = Unit {0}
-AllBytes (p ∷ ps) = Bytes p × AllBytes ps
 
 up_to_bytes : (n : ℕ) (s : List ℕ) (ps : List (List ℕ)) → Bytes s → parts_up_to n s ≡ full ps → AllBytes ps
 unfolding parts_up_to

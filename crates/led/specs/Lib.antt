@@ -4,3 +4,5 @@ pub mod Led
 pub mod Determined
 -- what only serves proofs
 pub mod Cut
+pub mod Parts
+pub mod Joined

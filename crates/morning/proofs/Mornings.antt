@@ -5,7 +5,8 @@ use Rattle.std.proofs.Common.{sym, ap, ◌∙◌, append_assoc, append-nil, leng
 use Rattle.refusal.specs.Answer.{Answer, refused, full}
 use Rattle.sum.specs.Bytes.{Bytes}
 use Rattle.led.specs.Led.{parts_of}
-use Rattle.led.proofs.Parts.{AllBytes, parts_bytes}
+use Rattle.led.specs.Parts.{AllBytes}
+use Rattle.led.proofs.Parts.{parts_bytes}
 use Rattle.summary.specs.declared.Summary.{Summary}
 use Rattle.summary.specs.declared.Went.{Went}
 use Rattle.summary.specs.declared.Went.TheVariants.{Well, Refused}
@@ -13,66 +14,10 @@ use Rattle.capture.specs.declared.Mark.{Mark}
 use Rattle.append.specs.Append.{verdict, appended_to}
 use Rattle.year.specs.Marks.{Marks}
 use Rattle.year.specs.Runs.{Call, goes_in, Grown, then_appended, Afresh, summary_afresh}
-use Rattle.morning.specs.declared.Ran.{Ran}
-use Rattle.morning.specs.declared.RanAt.{RanAt}
-use Rattle.morning.specs.Morning.{Stand, single, singles, begins, entered_by, StandAt, ran, ran_out, ran_left, ran_at, ran_at_out, ran_at_left}
-use Rattle.morning.proofs.Singly.{run_all, plainly, AsLetter, run_by_mark}
-
--- a morning: seconds and a run, in 32 bits and bytes
-pub record Morning : Type 0 where
-  pub seconds : ℕ
-  pub run : List ℕ
-
-pub record Sound (c : Morning) : Type 0 where
-  pub short : c.seconds < 4294967296
-  pub bytes : Bytes c.run
-
-abbrev pub AllSound : List Morning → Type 0
-AllSound [] = Unit {0}
-AllSound (c ∷ cs) = Sound c × AllSound cs
-
--- what a call by the letter leaves: what it answers, and the buffer; and what one by a mark leaves
-pub record Left : Type 0 where
-  pub says : Ran
-  pub buffer : List ℕ
-
-abbrev pub leaves : List ℕ → ℕ → Summary → Morning → Left
-leaves b u x c = let a = ran b u x c.seconds c.run in record { says = ran_out a u x; buffer = ran_left a b }
-
-pub record LeftAt : Type 0 where
-  pub says : RanAt
-  pub buffer : List ℕ
-
-abbrev pub leaves_at : List ℕ → Mark → Summary → Morning → LeftAt
-leaves_at b m x c = let a = ran_at b m x c.seconds c.run in record { says = ran_at_out a m x; buffer = ran_at_left a b }
-
--- without the mark's last seconds
-abbrev pub plain : LeftAt → Left
-plain l =
-    record {
-      says =
-          record {
-            went = l.says.went;
-            entered = l.says.entered;
-            refused = l.says.refused;
-            used = l.says.kept.mark.used;
-            summary = l.says.kept.summary;
-          };
-      buffer = l.buffer;
-    }
-
--- MORNINGS, each with what the one before left: what each leaves
-unfoldable pub by_letter : List ℕ → ℕ → Summary → List Morning → List Left
-by_letter b u x [] = []
-by_letter b u x (c ∷ cs) =
-    let l = leaves b u x c in
-    l ∷ by_letter l.buffer l.says.used l.says.summary cs
-
-unfoldable pub by_marks : List ℕ → Mark → Summary → List Morning → List LeftAt
-by_marks b m x [] = []
-by_marks b m x (c ∷ cs) =
-    let l = leaves_at b m x c in
-    l ∷ by_marks l.buffer l.says.kept.mark l.says.kept.summary cs
+use Rattle.morning.specs.Morning.{Stand, single, singles, begins, entered_by, StandAt, ran, ran_at}
+use Rattle.morning.specs.Singly.{plainly, AsLetter}
+use Rattle.morning.proofs.Singly.{run_all, run_by_mark}
+use Rattle.morning.specs.Mornings.{went, Morning, Sound, AllSound, Left, leaves, leaves_at, plain, by_letter, by_marks, went_in}
 
 record Alike (b : List ℕ) (m : Mark) (x : Summary) (c : Morning) : Type 0 where
   same : plain (leaves_at b m x c) ≡ leaves b m.used x c
@@ -104,14 +49,6 @@ mornings_marks b m x (c ∷ cs) h k s =
     let a = alike b m x c s.0 h k in
     ap (λ (z : List Left). plain l ∷ z) (mornings_marks l.buffer l.says.kept.mark l.says.kept.summary cs a.bytes a.marks s.1)
     ∙ ap (λ (z : Left). z ∷ by_letter z.buffer z.says.used z.says.summary cs) a.same
-
--- WHAT WENT IN by a run, in its order: the datagrams that were not refused, under its time
-abbrev went : ℕ → Stand → List ℕ → Went
-went t z d = (appended_to (verdict z.buffer z.used z.summary t d) z.used z.summary t d).went
-
-unfoldable pub went_in : ℕ → Stand → List (List ℕ) → List Call
-went_in t z [] = []
-went_in t z (d ∷ ds) = goes_in (went t z d) (record { seconds = t; datagram = d }) ++ went_in t (single t z d) ds
 
 -- they are as many as it says
 goes_one : (w : Went) (c : Call) → length (goes_in w c) ≡ entered_by w

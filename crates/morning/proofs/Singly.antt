@@ -6,7 +6,8 @@ use Rattle.refusal.specs.Test.{clash}
 use Rattle.refusal.specs.Answer.{Answer, refused, full, full_one}
 use Rattle.sum.specs.Bytes.{Bytes}
 use Rattle.led.specs.Led.{parts_of}
-use Rattle.led.proofs.Parts.{AllBytes, parts_bytes}
+use Rattle.led.specs.Parts.{AllBytes}
+use Rattle.led.proofs.Parts.{parts_bytes}
 use Rattle.event.specs.declared.Layout.{Layout}
 use Rattle.summary.specs.declared.Summary.{Summary}
 use Rattle.summary.specs.declared.Went.{Went}
@@ -18,26 +19,7 @@ use Rattle.append.specs.Judged.{opened_there}
 use Rattle.year.specs.Marks.{Marks}
 use Rattle.year.specs.Runs.{Call, Left, by_letter, alike}
 use Rattle.morning.specs.Morning.{entered_by, refused_by, Stand, single, singles, begins, StandAt, single_at, singles_at, begins_at, judged, ran, ran_at}
-
--- A RUN IS ITS DATAGRAMS APPENDED SINGLY. As calls of `append`
-abbrev pub calls : ℕ → List (List ℕ) → List Call
-calls t [] = []
-calls t (d ∷ ds) = record { seconds = t; datagram = d } ∷ calls t ds
-
--- what stands behind others after an append, and after some
-abbrev pub behind : ℕ → ℕ → Left → Stand
-behind e r l =
-    record {
-      entered = e + entered_by l.says.went;
-      refused = r + refused_by l.says.went;
-      used = l.says.used;
-      summary = l.says.summary;
-      buffer = l.buffer;
-    }
-
-unfoldable pub after : Stand → List Left → Stand
-after z [] = z
-after z (l ∷ ls) = after (behind z.entered z.refused l) ls
+use Rattle.morning.specs.Singly.{calls, behind, after, Marked, Alike, AsLetter}
 
 -- the stand behind a run is the one behind the run of these calls by the letter (crate year)
 singles_calls : (t : ℕ) (ds : List (List ℕ)) (z : Stand) → singles t z ds ≡ after z (by_letter z.buffer z.used z.summary (calls t ds))
@@ -92,26 +74,6 @@ unfolding ran_at
 in_and_refused_at b m x t run ds e f =
     rw (← ran_all (front_of b m.used) ds (parts_of run) (singles_at t (begins_at b m x)) e f) (omega (arith, counts_add_at t ds (begins_at b m x)))
 
--- ONE BY ONE, BY MARKS AS BY THE LETTER. What stands by marks, without the mark's last seconds
-abbrev pub plain : StandAt → Stand
-plain z =
-    record {
-      entered = z.entered;
-      refused = z.refused;
-      used = z.kept.mark.used;
-      summary = z.kept.summary;
-      buffer = z.buffer;
-    }
-
--- a stand that is marked: its mark says of its buffer what opening it says
-pub record Marked (z : StandAt) : Type 0 where
-  pub marks : Marks z.buffer z.kept.mark
-  pub bytes : Bytes z.buffer
-
-pub record Alike (t : ℕ) (z : StandAt) (ds : List (List ℕ)) : Type 0 where
-  pub same : plain (singles_at t z ds) ≡ singles t (plain z) ds
-  pub marked : Marked (singles_at t z ds)
-
 pub singles_alike : (t : ℕ) → t < 4294967296 → (ds : List (List ℕ)) → AllBytes ds → (z : StandAt) → Marked z → Alike t z ds
 unfolding singles singles_at
 singles_alike t s [] h z k = record { same = refl; marked = k }
@@ -123,15 +85,6 @@ singles_alike t s (d ∷ ds) h z k =
       same = r.same ∙ ap (λ (l : Left). singles t (behind z.entered z.refused l) ds) a.same;
       marked = r.marked;
     }
-
--- A CALL BY A MARK that marks the buffer answers what the call by the letter answers, and hands out a mark that marks the buffer left
-abbrev pub plainly : Answer StandAt → Answer Stand
-plainly (refused k) = refused k
-plainly (full z) = full (plain z)
-
-pub record AsLetter (b : List ℕ) (m : Mark) (x : Summary) (t : ℕ) (run : List ℕ) : Type 0 where
-  pub same : plainly (ran_at b m x t run) ≡ ran b m.used x t run
-  pub marked : (z : StandAt) → ran_at b m x t run ≡ full z → Marked z
 
 pub run_by_mark : (b : List ℕ) (m : Mark) (x : Summary) (t : ℕ) (run : List ℕ) → Bytes b → Bytes run → t < 4294967296 → Marks b m → AsLetter b m x t run
 unfolding ran ran_at

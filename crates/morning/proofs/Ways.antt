@@ -17,7 +17,8 @@ use Rattle.year.specs.Marks.{open_marks}
 use Rattle.morning.specs.declared.Ran.{Ran}
 use Rattle.morning.specs.declared.RanAt.{RanAt}
 use Rattle.morning.specs.Morning.{singles, begins, StandAt, singles_at, begins_at, ran, ran_out, Runs, ran_at, ran_at_out, RunsAt}
-use Rattle.morning.proofs.Singly.{plain, singles_alike}
+use Rattle.morning.specs.Singly.{plain}
+use Rattle.morning.proofs.Singly.{singles_alike}
 use Rattle.morning.specs.Going.{parts_in, all_of}
 
 -- the parts of a run that is whole

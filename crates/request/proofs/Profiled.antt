@@ -22,11 +22,7 @@ use Rattle.request.specs.Writing.{basic_of, unicast_frame, colour_frame, frame_o
 use Rattle.request.proofs.Retired.{heard_command, heard_fields}
 use Rattle.request.proofs.Demand2.{requests}
 use Rattle.request.specs.declared.Ipv4.{Ipv4}
-
--- a frame that would be written, but for the profile
-abbrev pub under : Profile → ℕ → Answer (List ℕ) → Answer (List ℕ)
-under p k (refused n) = refused n
-under p k (full x) = demand (allows p k) 13 (full x)
+use Rattle.request.specs.Profiled.{under}
 
 module _ (p : Profile) where
   basic_last : (h : Shape) (s k a b c d : ℕ)
@@ -42,7 +38,9 @@ module _ (p : Profile) where
       go false u x = refl
 
   -- 13 COMES LAST OF ALL BUT 8: what is refused where no profile is chosen is refused with the same number under any; and what would be
+
   -- written is refused with 13 exactly where the profile does not allow its command
+
   pub profile_last : (f : Fields) → frame_of p f ≡ under p (command_in f) (frame_of Open f)
   profile_last (basic s k a b c d) = basic_last (shape_of k) s k a b c d
   profile_last (unicast s port i j k l) = go (ltb port 65536) (layout (unicast s port i j k l))
@@ -60,6 +58,7 @@ module _ (p : Profile) where
       go false u v x = refl
 
   -- what is written has a command that the profile allows
+
   pub written_allowed : (f : Fields) (x : List ℕ) → frame_of p f ≡ full x → allows p (command_in f) ≡ true
   written_allowed f x e = go (frame_of Open f) (sym (profile_last f) ∙ e)
     where

@@ -8,3 +8,4 @@ pub mod One
 -- what only serves proofs
 pub mod Reads
 pub mod Coloured
+pub mod Profiled
