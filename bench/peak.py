@@ -1,7 +1,7 @@
 """The most memory that a program has resident while it reads a file through a pipe, in KiB: python3 bench/peak.py FILE PROGRAM WORDS...
 
 It is asked of the system (VmHWM in /proc) when the program has read all bytes and waits for more; then the pipe is closed. Where the system
-does not say, or the program ends before, it prints `?`. Of a program that an emulator runs, the emulator's own memory is counted in.
+does not say, or the program ends before, it prints `?`.
 """
 import array
 import fcntl

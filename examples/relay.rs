@@ -1,5 +1,5 @@
 // Reads a reply datagram and writes it again. Its bytes are the arguments, in hexadecimal:  relay A3 07 01 B1 14
-//     rustc -O examples/relay.rs -L native=target/staticlib -l static=wickanchor -o target/relay
+//     rustc -O examples/relay.rs -L native=crates/wickanchor/out -l static=wickanchor -o target/relay
 // Structs and functions are those of include/wickanchor.h: a run of bytes is a pointer and a length, an answer comes by value.
 
 #[repr(C)]

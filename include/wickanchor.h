@@ -1,4 +1,4 @@
-/* The functions of libwickanchor.a (rt staticlib wickanchor; x86-64): a codec for TPI Advanced.
+/* The functions of libwickanchor.a (rt lib in crates/wickanchor; x86-64): a codec for TPI Advanced.
 
    What is asked of a caller:
    - A run of bytes is a pointer and a length, and so many bytes can be read there. NULL with length 0 is an empty run.

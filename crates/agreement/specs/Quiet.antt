@@ -12,8 +12,8 @@ use Rattle.request.specs.Layout.{Fields}
 use Rattle.request.specs.Said.{Heard, command_of}
 use Rattle.request.specs.Reading.{read_request}
 use Rattle.request.specs.Writing.{frame_of}
-use Rattle.request.specs.Retired.{heard_command}
-use Rattle.request.specs.Profiled.{written_inside}
+use Rattle.request.proofs.Retired.{heard_command}
+use Rattle.request.proofs.Profiled.{written_inside}
 use Rattle.stream.specs.Stream.{Item, reading, whole, items, bytes_of}
 use Rattle.stream.specs.Items.{items_none, items_bytes}
 use Rattle.extent.specs.declared.Line.TheVariants.{Request}

@@ -11,8 +11,8 @@ use Rattle.request.specs.Layout.{Fields}
 use Rattle.request.specs.Said.{Heard, mark_of}
 use Rattle.request.specs.Reading.{read_request}
 use Rattle.request.specs.Writing.{frame_of}
-use Rattle.request.specs.Retired.{heard_command, retired_read}
-use Rattle.request.specs.Demand2.{written_unmarked}
+use Rattle.request.proofs.Retired.{heard_command, retired_read}
+use Rattle.request.proofs.Demand2.{written_unmarked}
 use Rattle.stream.specs.Stream.{Settling, More, Settled}
 use Rattle.stream.specs.Stream.{Item, reading, item_number, item_size, whole, items_up_to, items}
 use Rattle.stream.specs.Items.{behind, items_none}

@@ -2,7 +2,7 @@
 -- "a reply's sequence number is not awaited" (10), "A reply with an awaited number frees it and returns its command".
 use Rattle.std.specs.Prelude.{ℕ, ◌<◌, ◌≡◌, refl, Bool, true, false, List, ◌↔◌}
 use Rattle.std.proofs.Common.{sym, ap, ◌∙◌}
-use Rattle.std.proofs.Math.Logic.{Iff·rfl, Iff·trans, Iff·and}
+use mathlib.Core.Logic.Iff
 use Rattle.refusal.specs.Test.{not_both}
 use Rattle.refusal.specs.Answer.{refused, full}
 use Rattle.command.specs.Command.{is_known, may_ask}
@@ -15,7 +15,7 @@ use Rattle.awaited.specs.Kept.{kept}
 module _ (past : List Call) where
   -- a reply is answered with c exactly if its number is awaited with c
   pub reply_command : (n c : ℕ) → (answer (book_of past) (reply n) ≡ full c) ↔ Awaited n c (history_of past)
-  reply_command n c = Iff·trans (command_full (book_of past) n c) (kept past n c)
+  reply_command n c = Iff.trans (command_full (book_of past) n c) (kept past n c)
 
   -- that is one command, so it is the one last asked under the number
   pub awaited_one : (n c d : ℕ) → Awaited n c (history_of past) → Awaited n d (history_of past) → c ≡ d
@@ -43,7 +43,7 @@ module _ (past : List Call) where
 
   -- a reply is refused exactly if its number is not awaited, and then with 10
   pub reply_ten : (n k : ℕ) → (answer (book_of past) (reply n) ≡ refused k) ↔ ((k ≡ 10) × ((c : ℕ) → Awaited n c (history_of past) → ⊥))
-  reply_ten n k = Iff·trans (command_ten (book_of past) n k) (Iff·and Iff·rfl (free_unawaited n))
+  reply_ten n k = Iff.trans (command_ten (book_of past) n k) (Iff.and Iff.rfl (free_unawaited n))
 
   -- a number is given only if it is not awaited at that moment
   pub given_unawaited : (c n : ℕ) → answer (book_of past) (ask c) ≡ full n → (d : ℕ) → Awaited n d (history_of past) → ⊥
@@ -53,5 +53,5 @@ module _ (past : List Call) where
   pub ask_nine : (c k : ℕ) → may_ask c ≡ true
       → (answer (book_of past) (ask c) ≡ refused k) ↔ ((k ≡ 9) × ((n : ℕ) → n < 256 → (d : ℕ) × Awaited n d (history_of past)))
   ask_nine c k may =
-      Iff·trans (number_nine (book_of past) c (run_sound past).latest may k)
-      (Iff·and Iff·rfl ((λ h n l. held_awaited n (h n l)), λ h n l. awaited_held n (h n l).0 (h n l).1))
+      Iff.trans (number_nine (book_of past) c (run_sound past).latest may k)
+      (Iff.and Iff.rfl ((λ h n l. held_awaited n (h n l)), λ h n l. awaited_held n (h n l).0 (h n l).1))

@@ -8,7 +8,8 @@ use Rattle.std.proofs.lemmas.Bool.{not-true}
 use Rattle.refusal.specs.Test.{pick_elim, clash, not_both}
 use Rattle.refusal.specs.Answer.{refused, full, demand, demand_elim, full_one}
 use Rattle.command.specs.Command.{is_known, is_retired, may_ask}
-use Rattle.command.specs.Known.{retired_known, may_ask_known, may_ask_current, current_may_ask}
+use Rattle.command.proofs.RetiredKnown.{retired_known}
+use Rattle.command.specs.Known.{may_ask_known, may_ask_current, current_may_ask}
 use Rattle.free_number.specs.declared.Book.{Book}
 use Rattle.free_number.specs.Number.{next, entry, holds, first_free, number_for}
 use Rattle.book.specs.Book.{command_of}

@@ -6,7 +6,8 @@ use mathlib.Core.List.{List, [], ◌∷◌, Memᴰ}
 use Rattle.refusal.specs.Test.{clash, not_both}
 use Rattle.refusal.specs.Answer.{Answer, refused, full}
 use Rattle.command.specs.Command.{is_retired}
-use Rattle.command.specs.Known.{retired_known, may_ask_current}
+use Rattle.command.specs.Known.{may_ask_current}
+use Rattle.command.proofs.RetiredKnown.{retired_known}
 use Rattle.free_number.specs.declared.Book.{Book}
 use Rattle.free_number.specs.Number.{vacant, entry, number_for}
 use Rattle.book.specs.Book.{fresh_book, noted, command_of, freed}

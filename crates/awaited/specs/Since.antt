@@ -4,7 +4,7 @@ use Rattle.std.specs.Prelude.{ℕ, zero, suc, ◌≤◌, ◌<◌, ◌≡◌, ref
 use Rattle.std.proofs.Common.{sym, ap, subst, ◌∙◌, inl, inr, length-set, get_or-set_same, get_or-set_other, arith}
 use mathlib.Core.List.Memᴰ
 use mathlib.Core.List.{List, [], ◌∷◌, Memᴰ}
-use Rattle.std.proofs.Math.Logic.{Iff·rfl, Iff·trans, Iff·and}
+use mathlib.Core.Logic.Iff
 use Rattle.std.proofs.lemmas.List.{length-replicate}
 use Rattle.std.proofs.Math.Decide.{dec_lt}
 use Rattle.refusal.specs.Test.{pick, clash, not_both}
@@ -190,15 +190,15 @@ module _ (past : List TimedCall) where
 
   -- a number is free in the book exactly if it is not awaited
   pub timed_free_unawaited : (n : ℕ) → (holds (timed_of past).book.asked n ≡ false) ↔ ((c t : ℕ) → AwaitedAt n c t (timed_history_of past) → ⊥)
-  timed_free_unawaited n = rw (shadow_run fresh_timed past) (Iff·trans (free_unawaited calls n) (unawaited n))
+  timed_free_unawaited n = rw (shadow_run fresh_timed past) (Iff.trans (free_unawaited calls n) (unawaited n))
 
   -- a reply is answered with c exactly if its number is awaited with c, and refused exactly if it is not awaited, with 10
   pub timed_reply_command : (n c : ℕ) → (timed_answer (timed_of past) (reply_to n) ≡ full c) ↔ ((t : ℕ) × AwaitedAt n c t (timed_history_of past))
-  timed_reply_command n c = rw (shadow_reply fresh_timed past n) (Iff·trans (reply_command calls n c) (awaited_shadow n c))
+  timed_reply_command n c = rw (shadow_reply fresh_timed past n) (Iff.trans (reply_command calls n c) (awaited_shadow n c))
 
   pub timed_reply_ten : (n k : ℕ)
       → (timed_answer (timed_of past) (reply_to n) ≡ refused k) ↔ ((k ≡ 10) × ((c t : ℕ) → AwaitedAt n c t (timed_history_of past) → ⊥))
-  timed_reply_ten n k = rw (shadow_reply fresh_timed past n) (Iff·trans (reply_ten calls n k) (Iff·and Iff·rfl (unawaited n)))
+  timed_reply_ten n k = rw (shadow_reply fresh_timed past n) (Iff.trans (reply_ten calls n k) (Iff.and Iff.rfl (unawaited n)))
 
   -- a number is given only if it is not awaited at that moment
   pub timed_given_unawaited : (c t n : ℕ) → timed_answer (timed_of past) (ask_at c t) ≡ full n → (d u : ℕ) → AwaitedAt n d u (timed_history_of past) → ⊥
@@ -209,8 +209,8 @@ module _ (past : List TimedCall) where
       → (timed_answer (timed_of past) (ask_at c t) ≡ refused k) ↔ ((k ≡ 9) × ((n : ℕ) → n < 256 → (d : ℕ) × (u : ℕ) × AwaitedAt n d u (timed_history_of past)))
   timed_ask_nine c t k may =
       rw (shadow_ask fresh_timed past c t)
-      (Iff·trans (ask_nine calls c k may)
-      (Iff·and Iff·rfl ((λ h n l. let w = h n l in let x = (awaited_shadow n w.0).0 w.1 in (w.0, x.0, x.1)), λ h n l. let w = h n l in (w.0, (awaited_shadow n w.0).1 (w.1, w.2)))))
+      (Iff.trans (ask_nine calls c k may)
+      (Iff.and Iff.rfl ((λ h n l. let w = h n l in let x = (awaited_shadow n w.0).0 w.1 in (w.0, x.0, x.1)), λ h n l. let w = h n l in (w.0, (awaited_shadow n w.0).1 (w.1, w.2)))))
 
   -- a run from a fresh book holds no retired command
   pub timed_fresh_none : (n : ℕ) → is_retired (entry (timed_of past).book.asked n) ≡ false

@@ -24,9 +24,9 @@ mark_xor (suc zero) (suc zero) ha hb = refl
 mark_xor (suc zero) (suc (suc b)) ha hb = absurd (omega arith)
 mark_xor (suc (suc a)) b ha hb = absurd (omega arith)
 
-bit_xor : (a b k : ℕ) → bit (bit_xor a b) k ≡ (bit a k + bit b k) % 2
+bit_xor_lem : (a b k : ℕ) → bit (bit_xor a b) k ≡ (bit a k + bit b k) % 2
 unfolding bit
-bit_xor a b k =
+bit_xor_lem a b k =
     ap (λ (x : ℕ). x % 2) (xor_shr a b k)
     ∙ xor_mod (a / 2 ^ k) (b / 2 ^ k) 1
     ∙ mark_xor (a / 2 ^ k % 2) (b / 2 ^ k % 2) (omega arith) (omega arith)
@@ -61,7 +61,7 @@ unfolding sum_from times
 times_sum k [] = bit_of_zero k
 times_sum k (m ∷ l) =
     let e = times_sum k l in
-    rw (sum_cons m l, bit_xor m (sum_of l) k) (omega (arith, e))
+    rw (sum_cons m l, bit_xor_lem m (sum_of l) k) (omega (arith, e))
 
 evenly_each : (w : ℕ) (l : List ℕ) → evenly w l ≡ true → (k : ℕ) → k < w → times k l % 2 ≡ 0
 unfolding evenly
@@ -129,7 +129,7 @@ times_none k (a ∷ s) [] h e = refl
 times_none k (a ∷ s) (b ∷ t) h e =
     let r = times_none k s t (omega arith) (λ j. e (suc j)) in
     let z : bit a k ≡ bit b k = e 0 in
-    times_cons k a b s t ∙ rw (r, bit_xor a b k) (omega (arith, z))
+    times_cons k a b s t ∙ rw (r, bit_xor_lem a b k) (omega (arith, z))
 
 times_alone : (k i : ℕ) (s t : List ℕ) → length t ≡ length s → ((j : ℕ) → (j ≡ i → ⊥) → bit (get_or s j 0) k ≡ bit (get_or t j 0) k)
     → times k (changed s t) ≡ (bit (get_or s i 0) k + bit (get_or t i 0) k) % 2
@@ -138,11 +138,11 @@ times_alone k i [] [] h e = rw (bit_of_zero k)
 times_alone k i [] (b ∷ t) h e = absurd (omega arith)
 times_alone k i (a ∷ s) [] h e = absurd (omega arith)
 times_alone k zero (a ∷ s) (b ∷ t) h e =
-    times_cons k a b s t ∙ rw (times_none k s t (omega arith) (λ j. e (suc j) (λ q. absurd (omega arith))), bit_xor a b k) (omega arith)
+    times_cons k a b s t ∙ rw (times_none k s t (omega arith) (λ j. e (suc j) (λ q. absurd (omega arith))), bit_xor_lem a b k) (omega arith)
 times_alone k (suc i) (a ∷ s) (b ∷ t) h e =
     let r = times_alone k i s t (omega arith) (λ j n. e (suc j) (λ q. n (omega arith))) in
     let z : bit a k ≡ bit b k = e 0 (λ q. absurd (omega arith)) in
-    times_cons k a b s t ∙ rw (r, bit_xor a b k) (omega (arith, z))
+    times_cons k a b s t ∙ rw (r, bit_xor_lem a b k) (omega (arith, z))
 
 -- so of a burst some bit was changed in an odd number of bytes
 pub burst_odd : (o : Order) (p : ℕ) (s t : List ℕ) → length t ≡ length s → (w : Burst o p s t)

@@ -42,13 +42,13 @@ module _ {X Fields Reading : Type 0} {InRange : Fields → Type 0} {layout : Fie
 
   module _ (d d' : List ℕ) (x x' : X) (b : Beside said read d d' x x') where
     -- the sum of a changed datagram is that of what was changed
-    sum_is : sum_of d' ≡ sum_of (changed d d')
+    pub sum_is : sum_of d' ≡ sum_of (changed d d')
     sum_is =
         let z : sum_of d ≡ 0 = accepted_sum d b.bytes (ap is_full (sym b.answer) ∙ b.taken) in
         sym (xor_zero_l (sum_of d')) ∙ ap (λ (s : ℕ). bit_xor s (sum_of d')) (sym z) ∙ sum_changed d d' b.long
 
     -- accepted exactly if that is 0, and nothing else is wrong
-    by_sum : is_full (said x') ≡ (is_full (read (mended d')) && eqb (sum_of (changed d d')) 0)
+    pub by_sum : is_full (said x') ≡ (is_full (read (mended d')) && eqb (sum_of (changed d d')) 0)
     by_sum = ap is_full b.answer' ∙ rw (← sum_is) (go (eqb (sum_of d') 0) refl)
       where
         go : (t : Bool) → eqb (sum_of d') 0 ≡ t → is_full (read d') ≡ (is_full (read (mended d')) && t)
@@ -63,22 +63,19 @@ module _ {X Fields Reading : Type 0} {InRange : Fields → Type 0} {layout : Fie
     refused_by_lem : (sum_of (changed d d') ≡ 0 → ⊥) → is_full (said x') ≡ false
     refused_by_lem o = by_sum ∙ rw (ne_eqb (sum_of (changed d d')) 0 o) (and-false (is_full (read (mended d'))))
 
-    odd : (k : ℕ) → times k (changed d d') % 2 ≡ 1 → is_full (said x') ≡ false
+    pub odd : (k : ℕ) → times k (changed d d') % 2 ≡ 1 → is_full (said x') ≡ false
     odd k e =
         refused_by_lem
         (λ z.
         let n : ◌≡◌ {A = ℕ} 0 1 = sym (bit_of_zero k) ∙ rw z at (times_sum k (changed d d') ∙ e) in
         clash n)
 
-    whole : is_full (said x') ≡ (is_full (read (mended d')) && evenly 8 (changed d d'))
-    whole = by_sum ∙ rw (evenly_sum (changed d d') (changed_bytes d d' b.bytes b.bytes'))
-
-  one : (d : List ℕ) (i v : ℕ) (x x' : X) → i < length d → (get_or d i 0 ≡ v → ⊥) → Beside said read d (set d i v) x x' → is_full (said x') ≡ false
+  pub one : (d : List ℕ) (i v : ℕ) (x x' : X) → i < length d → (get_or d i 0 ≡ v → ⊥) → Beside said read d (set d i v) x x' → is_full (said x') ≡ false
   one d i v x x' h o b =
       let e = changed_set d i v h o in
       refused_by_lem d (set d i v) x x' b (λ z. o (xor_cancel (get_or d i 0) v (sym (sum_one (bit_xor (get_or d i 0) v)) ∙ rw e at z)))
 
-  two : (d : List ℕ) (i j v w : ℕ) (x x' : X) → i < j → j < length d → (get_or d i 0 ≡ v → ⊥) → (get_or d j 0 ≡ w → ⊥)
+  pub two : (d : List ℕ) (i j v w : ℕ) (x x' : X) → i < j → j < length d → (get_or d i 0 ≡ v → ⊥) → (get_or d j 0 ≡ w → ⊥)
       → Beside said read d (set (set d i v) j w) x x'
       → is_full (said x') ≡ (is_full (read (mended (set (set d i v) j w))) && eqb (bit_xor (get_or d i 0) v) (bit_xor (get_or d j 0) w))
   two d i j v w x x' g h o p b =
@@ -86,24 +83,3 @@ module _ {X Fields Reading : Type 0} {InRange : Fields → Type 0} {layout : Fie
       let n : ℕ = bit_xor (get_or d j 0) w in
       by_sum d (set (set d i v) j w) x x' b
       ∙ ap (λ (t : Bool). is_full (read (mended (set (set d i v) j w))) && t) (rw (changed_two d i j v w g h o p, sum_two m n) (xor_none m n))
-
-  exchanged : (d : List ℕ) (i j : ℕ) (x x' : X) → i < j → j < length d → (get_or d i 0 ≡ get_or d j 0 → ⊥)
-      → Beside said read d (set (set d i (get_or d j 0)) j (get_or d i 0)) x x'
-      → is_full (said x') ≡ is_full (read (mended (set (set d i (get_or d j 0)) j (get_or d i 0))))
-  exchanged d i j x x' g h o b =
-      let a : ℕ = get_or d i 0 in
-      let c : ℕ = get_or d j 0 in
-      two d i j c a x x' g h o (λ q. o (sym q)) b
-      ∙ rw (eq-eqb (bit_xor a c) (bit_xor c a) (xor_comm a c)) (and-true (is_full (read (mended (set (set d i c) j a)))))
-
-  -- THE LAW
-  pub excludes : Excludes said read
-  excludes =
-      record {
-        one_changed = one;
-        odd_changed = λ d d' k x x' e b. odd d d' x x' b k e;
-        burst_changed = λ o p d d' x x' w b. odd d d' x x' b (place_of o 8 (w.at % 8)) (burst_odd o p d d' b.long w);
-        two_changed = two;
-        two_exchanged = exchanged;
-        any_changed = whole;
-      }

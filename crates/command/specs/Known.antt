@@ -138,9 +138,6 @@ pub retired_shape : (is_retired 0x0A ≡ true) × (shape_of 0x0A ≡ Basic Bare)
 unfolding is_retired shape_of numbers_in count_below
 retired_shape = (refl, refl, refl)
 
-pub retired_known : (c : ℕ) → is_retired c ≡ true → is_known c ≡ true
-retired_known c e = rw (retired_only c e, retired_shape.1)
-
 pub unicast_current : is_retired 0x40 ≡ false
 unfolding is_retired
 unicast_current = refl

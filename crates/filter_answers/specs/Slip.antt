@@ -3,7 +3,7 @@
 -- seen", with `mask_slip` of crate maps).
 use Rattle.std.specs.Prelude.{ℕ, ◌+◌, ◌/◌, ◌%◌, ◌^◌, ◌<◌, ◌≡◌, refl, Bool, true, false, List, [], ◌∷◌, ◌++◌, ◌↔◌, eqb}
 use Rattle.std.proofs.Common.{sym, ap, ◌∙◌, le-leb, arith}
-use Rattle.std.proofs.Math.Logic.{Iff·trans}
+use mathlib.Core.Logic.Iff
 use Rattle.std.specs.Int.Bits.{bit_xor}
 use Rattle.std.proofs.lemmas.Nat.{xor_comm}
 use Rattle.refusal.specs.Test.{clash}
@@ -42,7 +42,7 @@ exchanged h l = refl
 -- it names the same types exactly if the bytes are equal
 pub swap_names : (h l : ℕ) → h < 256 → l < 256 → ((t : ℕ) → t < 16 → is_named (pair h l) t ≡ is_named (pair l h) t) ↔ (h ≡ l)
 swap_names h l p q =
-    Iff·trans (named_one (pair h l) (pair l h) (pair_fits h l p q) (pair_fits l h q p))
+    Iff.trans (named_one (pair h l) (pair l h) (pair_fits h l p q) (pair_fits l h q p))
     ((λ e. (mask_slip h l p q).0 (e ∙ exchanged h l)), λ e. (mask_slip h l p q).1 e ∙ sym (exchanged h l))
 
 -- and which it names: those that lie 8 below and 8 above the right ones

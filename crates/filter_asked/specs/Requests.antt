@@ -21,7 +21,7 @@ use Rattle.ranges.specs.Arguments.{fits}
 use Rattle.meaning.specs.Meaning.{Sense, bare, group, emit, timers, group_scene, channel, filter, query, gear, inhibit, scene, level, lit, target, pair, meaning_of}
 use Rattle.request.specs.Said.{Inside, arguments, address, coloured, Heard, heard, command_of}
 use Rattle.request.specs.Reading.{read_basic, read_unicast, read_coloured, read_shape, read_request, basic_heard}
-use Rattle.request.specs.Retired.{heard_command}
+use Rattle.request.proofs.Retired.{heard_command}
 use Rattle.filter_asked.specs.declared.Filter.{Filter}
 use Rattle.filter_asked.specs.Asked.{Change, add, clear, change_in, change_inside, change_heard, asked}
 

@@ -6,7 +6,7 @@ use Rattle.stream.specs.Stream.{Item, reading, Position, nothing, stands, counts
 use Rattle.extent.specs.declared.Line.{Line}
 use Rattle.extent.specs.Line.{cap_of}
 use Rattle.line.specs.Rule.{item_at}
-use Rattle.printed.specs.Text.{line_of_lem, text_of}
+use Rattle.printed.specs.Text.{line_of, text_of}
 use Rattle.items.specs.declared.Poured.{Poured}
 
 -- what stands at the front of s taken from it, and then other items
@@ -32,7 +32,7 @@ ready on closed s = ready_up_to on closed (length s) s
 -- of some items, those whose lines find room, one behind the other
 unfoldable pub fitting : ℕ → List Item → List Item
 fitting room [] = []
-fitting room (i ∷ is) = pick (leb (length (line_of_lem i)) room) (i ∷ fitting (room - length (line_of_lem i)) is) []
+fitting room (i ∷ is) = pick (leb (length (line_of i)) room) (i ∷ fitting (room - length (line_of i)) is) []
 
 abbrev pub poured : Line → Bool → ℕ → List ℕ → List Item
 poured on closed room s = fitting room (ready on closed s)

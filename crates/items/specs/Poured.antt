@@ -9,7 +9,7 @@ use Rattle.stream.specs.Items.{behind}
 use Rattle.extent.specs.declared.Line.{Line}
 use Rattle.line.specs.Rule.{item_at, settle}
 use Rattle.line.specs.Says.{nothing_at, stands_at, items_end, items_at}
-use Rattle.printed.specs.Text.{line_of_lem, text_of}
+use Rattle.printed.specs.Text.{line_of, text_of}
 use Rattle.items.specs.Pour.{ready, fitting, poured}
 use Rattle.items.specs.Ready.{ready_next, ready_stops, items_ready}
 use Rattle.items.specs.Pouring.{fitting_next, fitting_stops, fitting_none}
@@ -27,41 +27,41 @@ pub fitting_all : (room : ℕ) (is : List Item) → length (text_of is) ≤ room
 unfolding text_of
 fitting_all room [] h = fitting_none room
 fitting_all room (i ∷ is) h =
-    let l = length-append (line_of_lem i) (text_of is) in
-    fitting_next room i is (omega arith) ∙ behind (fitting_all (room - length (line_of_lem i)) is (omega arith))
+    let l = length-append (line_of i) (text_of is) in
+    fitting_next room i is (omega arith) ∙ behind (fitting_all (room - length (line_of i)) is (omega arith))
 
 -- and what fits has room
 pub fitting_most : (room : ℕ) (is : List Item) → length (text_of (fitting room is)) ≤ room
 unfolding text_of fitting
 fitting_most room [] = omega arith
-fitting_most room (i ∷ is) = go (leb (length (line_of_lem i)) room) refl (fitting_most (room - length (line_of_lem i)) is)
+fitting_most room (i ∷ is) = go (leb (length (line_of i)) room) refl (fitting_most (room - length (line_of i)) is)
   where
-    go : (x : Bool) → leb (length (line_of_lem i)) room ≡ x → length (text_of (fitting (room - length (line_of_lem i)) is)) ≤ room - length (line_of_lem i)
+    go : (x : Bool) → leb (length (line_of i)) room ≡ x → length (text_of (fitting (room - length (line_of i)) is)) ≤ room - length (line_of i)
         → length (text_of (fitting room (i ∷ is))) ≤ room
-    go true e l = rw e (omega (arith, leb-true (length (line_of_lem i)) room e, length-append (line_of_lem i) (text_of (fitting (room - length (line_of_lem i)) is))))
+    go true e l = rw e (omega (arith, leb-true (length (line_of i)) room e, length-append (line_of i) (text_of (fitting (room - length (line_of i)) is))))
     go false e l = rw e (omega arith)
 
 module _ (on : Line) (closed : Bool) where
   -- the three ways that a pour can begin: with an item, with none that stands, with none whose line has room
   pub poured_cases : {P : Type 0} (room : ℕ) (s : List ℕ)
-      → ((k m : ℕ) → item_at on closed s ≡ stands k m → length (line_of_lem (reading k (take m s))) ≤ room
-      → poured on closed room s ≡ reading k (take m s) ∷ poured on closed (room - length (line_of_lem (reading k (take m s)))) (drop m s) → P)
+      → ((k m : ℕ) → item_at on closed s ≡ stands k m → length (line_of (reading k (take m s))) ≤ room
+      → poured on closed room s ≡ reading k (take m s) ∷ poured on closed (room - length (line_of (reading k (take m s)))) (drop m s) → P)
       → (item_at on closed s ≡ nothing → poured on closed room s ≡ [] → P)
-      → ((k m : ℕ) → item_at on closed s ≡ stands k m → room < length (line_of_lem (reading k (take m s))) → poured on closed room s ≡ [] → P)
+      → ((k m : ℕ) → item_at on closed s ≡ stands k m → room < length (line_of (reading k (take m s))) → poured on closed room s ≡ [] → P)
       → P
   poured_cases {P} room s some none full = go (item_at on closed s) refl
     where
-      fit : (k m : ℕ) (x : Bool) → leb (length (line_of_lem (reading k (take m s)))) room ≡ x → item_at on closed s ≡ stands k m → P
+      fit : (k m : ℕ) (x : Bool) → leb (length (line_of (reading k (take m s)))) room ≡ x → item_at on closed s ≡ stands k m → P
       fit k m true f e =
-          let h = leb-true (length (line_of_lem (reading k (take m s)))) room f in
+          let h = leb-true (length (line_of (reading k (take m s)))) room f in
           some k m e h (rw (ready_next on closed s k m e) (fitting_next room (reading k (take m s)) _ h))
       fit k m false f e =
-          let h = leb-false (length (line_of_lem (reading k (take m s)))) room f in
+          let h = leb-false (length (line_of (reading k (take m s)))) room f in
           full k m e h (rw (ready_next on closed s k m e) (fitting_stops room (reading k (take m s)) _ h))
 
       go : (x : Position) → item_at on closed s ≡ x → P
       go nothing e = none e (rw (ready_stops on closed s e) (fitting_none room))
-      go (stands k m) e = fit k m (leb (length (line_of_lem (reading k (take m s)))) room) refl e
+      go (stands k m) e = fit k m (leb (length (line_of (reading k (take m s)))) room) refl e
 
   -- what is poured, and then the items of what is left: the items of the whole stream
   pub poured_items : (room : ℕ) (s t : List ℕ) → (closed ≡ true → t ≡ [])
@@ -78,7 +78,7 @@ module _ (on : Line) (closed : Bool) where
           poured_cases room s
           (λ k m e f q.
           let w = stands_at on closed s k m e in
-          let left = room - length (line_of_lem (reading k (take m s))) in
+          let left = room - length (line_of (reading k (take m s))) in
           items_ready on closed s t k m last e
           ∙ behind (go n left (drop m s) (simp length-drop (omega (arith, w.2, w.3))))
           ∙ rw (q, rest_next k m s (poured on closed left (drop m s)) w.3))

@@ -12,7 +12,7 @@ use Rattle.stream.specs.Stream.{Item, reading, nothing, stands, counts_of}
 use Rattle.extent.specs.declared.Line.{Line}
 use Rattle.line.specs.Rule.{item_at}
 use Rattle.line.specs.Says.{none_at, stands_at}
-use Rattle.printed.specs.Text.{line_of_lem, text_of}
+use Rattle.printed.specs.Text.{line_of, text_of}
 use Rattle.printed.specs.Length.{line_some, text_append, text_one}
 use Rattle.items.specs.declared.Poured.{Poured}
 use Rattle.items.specs.Pour.{ready, fitting, poured, Pours}
@@ -24,7 +24,7 @@ unfolding counts_of
 counts_snoc [] k s = omega arith
 counts_snoc (reading j t ∷ is) k s = omega (arith, counts_snoc is k s)
 
-text_snoc : (is : List Item) (i : Item) → text_of (is ++ (i ∷ [])) ≡ text_of is ++ line_of_lem i
+text_snoc : (is : List Item) (i : Item) → text_of (is ++ (i ∷ [])) ≡ text_of is ++ line_of i
 text_snoc is i = text_append is (i ∷ []) ∙ rw (text_one i)
 
 -- a text behind another that stands at the start of a buffer
@@ -32,13 +32,13 @@ behind_text : (x t out : List ℕ) (w : ℕ) → w ≡ length x → over t (x ++
 behind_text x t out w e = rw (e, take_at x (drop (length x) out) (length x) refl, drop-append-add x (drop (length x) out) (length t), drop-drop (length t) (length x) out)
 
 -- the first of some items finds room, or none of them does
-pub fitting_next : (room : ℕ) (i : Item) (is : List Item) → length (line_of_lem i) ≤ room → fitting room (i ∷ is) ≡ i ∷ fitting (room - length (line_of_lem i)) is
+pub fitting_next : (room : ℕ) (i : Item) (is : List Item) → length (line_of i) ≤ room → fitting room (i ∷ is) ≡ i ∷ fitting (room - length (line_of i)) is
 unfolding fitting
-fitting_next room i is h = rw (le-leb (length (line_of_lem i)) room h)
+fitting_next room i is h = rw (le-leb (length (line_of i)) room h)
 
-pub fitting_stops : (room : ℕ) (i : Item) (is : List Item) → room < length (line_of_lem i) → fitting room (i ∷ is) ≡ []
+pub fitting_stops : (room : ℕ) (i : Item) (is : List Item) → room < length (line_of i) → fitting room (i ∷ is) ≡ []
 unfolding fitting
-fitting_stops room i is h = rw (lt-leb (length (line_of_lem i)) room h)
+fitting_stops room i is h = rw (lt-leb (length (line_of i)) room h)
 
 pub fitting_none : (room : ℕ) → fitting room [] ≡ []
 unfolding fitting
@@ -48,7 +48,7 @@ fitting_none room = refl
 pub wrote_none : (p : List Item) {start : ℕ} {out out' : List ℕ} {r : Poured} → Pours p start out r out' → r.wrote ≡ 0 → p ≡ []
 unfolding text_of
 wrote_none [] w e = refl
-wrote_none (i ∷ is) w e = absurd (omega (arith, w.wrote, line_some i, length-append (line_of_lem i) (text_of is)))
+wrote_none (i ∷ is) w e = absurd (omega (arith, w.wrote, line_some i, length-append (line_of i) (text_of is)))
 
 -- the bytes s from place start on, poured over the buffer out₀, are read up to place at, and the text reaches place w of the buffer, which is out
 pub record Pouring (on : Line) (closed : Bool) (s : List ℕ) (start : ℕ) (out₀ : List ℕ) (at w : ℕ) (out : List ℕ) : Type 0 where
@@ -110,16 +110,16 @@ module _ {on : Line} {closed : Bool} {s : List ℕ} {start : ℕ} {out₀ : List
     first = ready_next on closed (drop at s) k m e ∙ rw (part, drop-drop m at s)
 
     -- its line has no room
-    pub stops_full : {out' : List ℕ} {r : ℕ} → Puts (line_of_lem item) out w r out' → r ≡ w
+    pub stops_full : {out' : List ℕ} {r : ℕ} → Puts (line_of item) out w r out' → r ≡ w
         → Pours (poured on closed (length out₀) (drop start s)) start out₀ (record { read = at; wrote = w }) out'
     stops_full {out'} q n =
         let f = stayed (line_some item) q n in
         rw f.1 (stops p (rw first (fitting_stops (length out₀ - w) item _ (omega (arith, f.0, pouring_length p)))))
 
     -- or it has, and the pour goes on behind it
-    pub goes_on_lem : {out' : List ℕ} {r : ℕ} → Puts (line_of_lem item) out w r out' → (r ≡ w → ⊥) → Pouring on closed s start out₀ (at + m) r out'
+    pub goes_on_lem : {out' : List ℕ} {r : ℕ} → Puts (line_of item) out w r out' → (r ≡ w → ⊥) → Pouring on closed s start out₀ (at + m) r out'
     goes_on_lem {out'} {r} q n =
-        let t = line_of_lem item in
+        let t = line_of item in
         let f : w + length t ≤ length out = moved (line_some item) q n in
         let a = puts_room {t = t} {out = out} {at = w} f q in
         let g : fitting (length out₀ - w) (item ∷ ready on closed (drop (at + m) s)) ≡ item ∷ fitting (length out₀ - w - length t) (ready on closed (drop (at + m) s)) =

@@ -12,7 +12,7 @@ use Rattle.line.specs.Rule.{item_at, settle}
 use Rattle.line.specs.Laws.{lawful, waits_few}
 use Rattle.line.specs.Numbers.{occurs, occurs_at, numbers}
 use Rattle.line.specs.Says.{nothing_at, stands_at}
-use Rattle.printed.specs.Text.{line_of_lem}
+use Rattle.printed.specs.Text.{line_of}
 use Rattle.printed.specs.Length.{line_short}
 use Rattle.items.specs.Pour.{poured, longest_line}
 use Rattle.items.specs.Poured.{poured_cases}
@@ -54,7 +54,7 @@ cap_short Reply = omega arith
 
 -- no line of an item that stands anywhere is longer
 pub line_most : (on : Line) (closed : Bool) (s : List ℕ) (k m : ℕ) → item_at on closed s ≡ stands k m
-    → length (line_of_lem (reading k (take m s))) ≤ longest_line on
+    → length (line_of (reading k (take m s))) ≤ longest_line on
 line_most on closed s k m e =
     let w = stands_at on closed s k m e in
     let d : k < 10 = rw w.0 (number_digit on s) in

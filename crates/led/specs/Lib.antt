@@ -2,7 +2,7 @@
 pub mod Led
 -- what is claimed of it
 pub mod Determined
-pub mod Joined
 -- what only serves proofs
 pub mod Cut
 pub mod Parts
+pub mod Joined

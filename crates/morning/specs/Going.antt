@@ -9,7 +9,7 @@ use Rattle.refusal.specs.Test.{clash}
 use Rattle.refusal.specs.Answer.{Answer, refused, full, is_full, full_one}
 use Rattle.led.specs.Led.{part_at, with_part, parts_of}
 use Rattle.led.specs.Cut.{part_there}
-use Rattle.led.specs.Parts.{parts_end, parts_next, parts_cut}
+use Rattle.led.proofs.Parts.{parts_end, parts_next, parts_cut}
 use Rattle.summary.specs.declared.Summary.{Summary}
 use Rattle.summary.specs.declared.Went.{Went}
 use Rattle.summary.specs.declared.Went.TheVariants.{Well, Refused}

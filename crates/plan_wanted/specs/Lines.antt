@@ -8,7 +8,7 @@ use Rattle.asked.specs.declared.Number.{Number}
 use Rattle.asked.specs.declared.Number.TheVariants.{Of, Not}
 use Rattle.asked.specs.Asked.{number_of, is_number, value_of}
 use Rattle.plan_wanted.specs.declared.Line.TheVariants.{Nothing, Bad}
-use Rattle.plan_wanted.specs.Wanted.{words_of, says_of, three_of, is_remark, by_words, line_of_lem}
+use Rattle.plan_wanted.specs.Wanted.{words_of, says_of, three_of, is_remark, by_words, line_of}
 use Rattle.plan_wanted.specs.Places.{ahead, is_kind, word_none, word_first, word_turn}
 
 -- a number of a word is a byte
@@ -51,18 +51,18 @@ part_none s a b h q =
 
 -- where the first word begins
 module _ (s : List ℕ) (a : ℕ) (p : a ≡ 0 + ahead (is_kind false) (drop 0 s)) where
-  pub line_nothing : length s ≤ a → Nothing ≡ line_of_lem s
-  unfolding line_of_lem
+  pub line_nothing : length s ≤ a → Nothing ≡ line_of s
+  unfolding line_of
   line_nothing h = sym (ap by_words (word_none s 0 a p h))
 
   module _ (h : a < length s) (b : ℕ) (q : b ≡ a + ahead (is_kind true) (drop a s)) where
-    first : line_of_lem s ≡ pick (eqb (get_or s a 0) 35) Nothing (three_of (take (b - a) (drop a s) ∷ words_of (drop b s)))
-    unfolding line_of_lem
+    first : line_of s ≡ pick (eqb (get_or s a 0) 35) Nothing (three_of (take (b - a) (drop a s) ∷ words_of (drop b s)))
+    unfolding line_of
     first =
         ap by_words (word_turn s 0 a p h b q)
         ∙ ap (λ (w : List ℕ). pick (is_remark w) Nothing (three_of (take (b - a) (drop a s) ∷ words_of (drop b s)))) (word_first s 0 a p h b q)
 
-    pub line_remark : get_or s a 0 ≡ 35 → Nothing ≡ line_of_lem s
+    pub line_remark : get_or s a 0 ≡ 35 → Nothing ≡ line_of s
     line_remark e = sym (first ∙ rw (eq-eqb (get_or s a 0) 35 e))
 
     -- and the others
@@ -79,10 +79,10 @@ module _ (s : List ℕ) (a : ℕ) (p : a ≡ 0 + ahead (is_kind false) (drop 0 s
       abbrev z : List ℕ
       z = take (f - e) (drop e s)
 
-      three : line_of_lem s ≡ three_of (x ∷ words_of (drop b s))
+      three : line_of s ≡ three_of (x ∷ words_of (drop b s))
       three = first ∙ rw (ne_eqb (get_or s a 0) 35 n)
 
-      pub line_more : g < length s → Bad ≡ line_of_lem s
+      pub line_more : g < length s → Bad ≡ line_of s
       line_more k =
           let h : ℕ = g + ahead (is_kind true) (drop g s) in
           sym
@@ -91,7 +91,7 @@ module _ (s : List ℕ) (a : ℕ) (p : a ≡ 0 + ahead (is_kind false) (drop 0 s
           ∙ ap (λ (ws : List (List ℕ)). three_of (x ∷ y ∷ ws)) (word_turn s d e u (omega arith) f v)
           ∙ ap (λ (ws : List (List ℕ)). three_of (x ∷ y ∷ z ∷ ws)) (word_turn s f g w k h refl))
 
-      pub line_three : length s ≤ g → says_of (number_of 255 x) (number_of 255 y) (number_of 255 z) ≡ line_of_lem s
+      pub line_three : length s ≤ g → says_of (number_of 255 x) (number_of 255 y) (number_of 255 z) ≡ line_of s
       line_three k = sym (three ∙ go (leb (length s) c) refl (leb (length s) e) refl)
         where
           go : (i : Bool) → leb (length s) c ≡ i → (j : Bool) → leb (length s) e ≡ j

@@ -17,7 +17,7 @@ use Rattle.plan_wanted.specs.declared.Line.TheVariants.{Nothing, Says, Bad}
 use Rattle.plan_wanted.specs.declared.Judged.{Judged}
 use Rattle.plan_wanted.specs.declared.Judged.TheVariants.{Events, BadLine as Judged-bad-line}
 use Rattle.plan_wanted.specs.declared.Wanted.TheVariants.{Bytes, BadLine, Full}
-use Rattle.plan_wanted.specs.Wanted.{line_of_lem, Event, event, Told, events, bad, in_front, all_of, told_by, bytes_of, answer_of, left_by, Reads}
+use Rattle.plan_wanted.specs.Wanted.{line_of, Event, event, Told, events, bad, in_front, all_of, told_by, bytes_of, answer_of, left_by, Reads}
 use Rattle.plan_wanted.specs.Places.{line_turn, line_done}
 
 -- what the lines from a place on tell
@@ -25,7 +25,7 @@ abbrev pub rest_of : List ℕ → ℕ → Told
 rest_of s i = told_by (drop i s)
 
 module _ (s : List ℕ) (i : ℕ) where
-  pub rest_turn : (e : ℕ) (l : Line) → i < length s → e ≡ i + before 10 (drop i s) → l ≡ line_of_lem (take (e - i) (drop i s)) → rest_of s i ≡ in_front l (rest_of s (e + 1))
+  pub rest_turn : (e : ℕ) (l : Line) → i < length s → e ≡ i + before 10 (drop i s) → l ≡ line_of (take (e - i) (drop i s)) → rest_of s i ≡ in_front l (rest_of s (e + 1))
   unfolding all_of
   rest_turn e l h q p = ap all_of (line_turn s i e h q) ∙ ap (λ (x : Line). in_front x (rest_of s (e + 1))) (sym p)
 
@@ -106,7 +106,7 @@ pub under_start : (s out : List ℕ) → Good (told_by s) 0 (length out) → Und
 under_start s out g = record { good = g; same = refl; left = λ r o w. w }
 
 module _ (s out₀ out : List ℕ) (i at : ℕ) (u : Under s out₀ out i at) where
-  pub under_turn : (e : ℕ) (l : Line) → i < length s → e ≡ i + before 10 (drop i s) → l ≡ line_of_lem (take (e - i) (drop i s))
+  pub under_turn : (e : ℕ) (l : Line) → i < length s → e ≡ i + before 10 (drop i s) → l ≡ line_of (take (e - i) (drop i s))
       → (m : ℕ) (o : List ℕ) → Puts (bytes_by l) out at m o → Under s out₀ o (e + 1) m
   under_turn e l h q p m o w =
       let y : Told = rest_of s (e + 1) in

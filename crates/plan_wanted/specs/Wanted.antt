@@ -64,8 +64,8 @@ abbrev pub by_words : List (List ℕ) → Line
 by_words [] = Nothing
 by_words (w ∷ ws) = pick (is_remark w) Nothing (three_of (w ∷ ws))
 
-unfoldable pub line_of_lem : List ℕ → Line
-line_of_lem l = by_words (words_of l)
+unfoldable pub line_of : List ℕ → Line
+line_of l = by_words (words_of l)
 
 -- what a text tells: the events of its lines, or the first line that is bad. "Lines are counted from 1"
 pub data Event : Type 0 where
@@ -85,7 +85,7 @@ in_front (Says a i t) (bad n) = bad (suc n)
 
 unfoldable pub all_of : List (List ℕ) → Told
 all_of [] = events []
-all_of (l ∷ ls) = in_front (line_of_lem l) (all_of ls)
+all_of (l ∷ ls) = in_front (line_of l) (all_of ls)
 
 abbrev pub told_by : List ℕ → Told
 told_by s = all_of (lines_of s)

@@ -4,7 +4,7 @@
 
 ghost use Rattle.std.specs.Prelude.{◌+◌, ◌≤◌, ◌≡◌, length, drop};
 ghost use Rattle.lent.specs.Puts.{Puts};
-ghost use Rattle.plan_wanted.specs.Wanted.{says_of, line_of_lem, told_by, Reads};
+ghost use Rattle.plan_wanted.specs.Wanted.{says_of, line_of, told_by, Reads};
 ghost use Rattle.plan_wanted.specs.Places.{ahead, is_kind};
 ghost use Rattle.plan_wanted.specs.Lines.{is_byte};
 ghost use Rattle.plan_wanted.specs.Turns.{tally, bytes_by, bytes_in, Good};
@@ -79,7 +79,7 @@ fn says_of(address: Number, instance: Number, kind: Number) -> Line
 
 // What a line says. A word that is not there has no bytes, which say no number.
 fn line_of(s: &[u8]) -> Line
-    ensures { result ≡ line_of_lem s.now }
+    ensures { result ≡ line_of s.now }
 {
     let a = next(s, 0, false);
     if s.len() <= a {

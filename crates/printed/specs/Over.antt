@@ -9,7 +9,7 @@ use Rattle.lent.specs.Over.{over_length, over_append, puts_room, puts_length, pu
 use Rattle.text.specs.Decimal.{decimal_most}
 use Rattle.stream.specs.Stream.{reading}
 use Rattle.text.specs.Digits.{decimal_one, decimal_two}
-use Rattle.printed.specs.Text.{blank, line_feed, hexes, head_of, head_most, line_of_lem}
+use Rattle.printed.specs.Text.{blank, line_feed, hexes, head_of, head_most, line_of}
 use Rattle.printed.specs.Length.{hexes_length, head_most_lem}
 
 pub hexes_append : (s t : List ℕ) → hexes (s ++ t) ≡ hexes s ++ hexes t
@@ -18,7 +18,7 @@ hexes_append [] t = refl
 hexes_append (b ∷ s) t = ap (λ (l : List ℕ). hex_of b ++ l) (hexes_append s t)
 
 -- a line is what stands in front of the bytes, and then these
-line_head : (k : ℕ) (s : List ℕ) → head_of k (length s) ++ (hexes s ++ (line_feed ∷ [])) ≡ line_of_lem (reading k s)
+line_head : (k : ℕ) (s : List ℕ) → head_of k (length s) ++ (hexes s ++ (line_feed ∷ [])) ≡ line_of (reading k s)
 line_head k s = simp append_assoc
 
 -- what stands in front, where the number has one digit and the count one, or two
@@ -68,10 +68,10 @@ head_aside k n {out} {o} {r} h p =
     (e, rw (e, a.1) (take-append_seam (head_of k n) (drop (0 + length (head_of k n)) out)), omega (arith, puts_length p))
 
 -- a line put in three steps: what stands in front of the bytes, the bytes, the line feed
-pub line_parts : (k : ℕ) (s : List ℕ) → length (line_of_lem (reading k s)) ≡ length (head_of k (length s)) + 2 * length s + 1
+pub line_parts : (k : ℕ) (s : List ℕ) → length (line_of (reading k s)) ≡ length (head_of k (length s)) + 2 * length s + 1
 line_parts k s = sym (ap length (line_head k s)) ∙ simp (length-append, hexes_length) (omega arith)
 
-module _ (k : ℕ) (s out : List ℕ) (at : ℕ) (fit : at + length (line_of_lem (reading k s)) ≤ length out) where
+module _ (k : ℕ) (s out : List ℕ) (at : ℕ) (fit : at + length (line_of (reading k s)) ≤ length out) where
   pub head_put : {o : List ℕ} {h : ℕ} → Puts (head_of k (length s)) out at h o → (h + 2 * length s < length o) × (length o ≡ length out)
   head_put p =
       let l = line_parts k s in
@@ -87,7 +87,7 @@ module _ (k : ℕ) (s out : List ℕ) (at : ℕ) (fit : at + length (line_of_lem
       (omega (arith, b.0), omega arith)
 
   pub line_put : {o o' : List ℕ} {h e : ℕ} → Puts (head_of k (length s)) out at h o → Puts (hexes s) o h e o'
-      → Puts (line_of_lem (reading k s)) out at (e + 1) (set o' e line_feed)
+      → Puts (line_of (reading k s)) out at (e + 1) (set o' e line_feed)
   line_put {o} {o'} {h} {e} p q =
       let l = line_parts k s in
       let a = head_put p in

@@ -16,13 +16,13 @@ hexes [] = []
 hexes (b ∷ s) = hex_of b ++ hexes s
 
 -- the line of an item
-abbrev pub line_of_lem : Item → List ℕ
-line_of_lem (reading k s) = decimal_of k ++ (blank ∷ (decimal_of (length s) ++ (blank ∷ (hexes s ++ (line_feed ∷ [])))))
+abbrev pub line_of : Item → List ℕ
+line_of (reading k s) = decimal_of k ++ (blank ∷ (decimal_of (length s) ++ (blank ∷ (hexes s ++ (line_feed ∷ [])))))
 
 -- the lines of items, one after the other
 unfoldable pub text_of : List Item → List ℕ
 text_of [] = []
-text_of (i ∷ is) = line_of_lem i ++ text_of is
+text_of (i ∷ is) = line_of i ++ text_of is
 
 -- what stands in front of an item's bytes, by its number and how many they are
 abbrev pub head_of : ℕ → ℕ → List ℕ

@@ -6,7 +6,7 @@ ghost use Rattle.std.specs.Prelude.{◌+◌, ◌*◌, ◌≤◌, ◌<◌, ◌≡
 ghost use Rattle.text.specs.Text.{decimal_of};
 ghost use Rattle.lent.specs.Puts.{Puts};
 ghost use Rattle.stream.specs.Stream.{reading};
-ghost use Rattle.printed.specs.Text.{hexes, head_of, head_most, line_of_lem};
+ghost use Rattle.printed.specs.Text.{hexes, head_of, head_most, line_of};
 
 // The most that stands in front of an item's bytes: two numbers of 20 digits, with a blank behind each.
 const HEAD: usize = 42;
@@ -55,7 +55,7 @@ fn short_length(n: usize) -> usize
 // Puts the line of an item whose number has one digit and whose count at most two.
 fn short_line(out: &mut [u8], at: usize, number: u8, s: &[u8]) -> usize
     requires { (number < 10) × (length s.now < 100) }
-    ensures { Puts (line_of_lem (reading number s.now)) out.old at result out.new }
+    ensures { Puts (line_of (reading number s.now)) out.old at result out.new }
 {
     let size = short_length(s.len());
     if out.len() < size {
@@ -83,7 +83,7 @@ fn long_head(out: &mut [u8], number: u8, n: usize) -> usize
 
 // Puts the line of any item. What stands in front of its bytes is made aside first: only its length tells the room.
 fn long_line(out: &mut [u8], at: usize, number: u8, s: &[u8]) -> usize
-    ensures { Puts (line_of_lem (reading number s.now)) out.old at result out.new }
+    ensures { Puts (line_of (reading number s.now)) out.old at result out.new }
 {
     let n = s.len();
     let mut head = [0u8; HEAD];
@@ -106,7 +106,7 @@ fn long_line(out: &mut [u8], at: usize, number: u8, s: &[u8]) -> usize
 // Puts the line of an item, and answers the place behind it. Where it has no room, no byte of the buffer changes, and the
 // answer is the place itself. (An item of one byte takes a way of its own, on which the compiler knows the length.)
 pub fn put_line(out: &mut [u8], at: usize, number: u8, s: &[u8]) -> usize
-    ensures { Puts (line_of_lem (reading number s.now)) out.old at result out.new }
+    ensures { Puts (line_of (reading number s.now)) out.old at result out.new }
 {
     if 9 < number {
         return long_line(out, at, number, s);

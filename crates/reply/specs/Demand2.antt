@@ -7,7 +7,6 @@ use Rattle.lead.specs.Lead.{is_reply, reply_data, reply_least}
 use Rattle.sum.specs.Bytes.{Bytes, bytes_cons, bytes_head, bytes_tail, bytes_take, bytes_drop}
 use Rattle.sum.specs.Sum.{sum_of}
 use Rattle.frame.specs.Demand2 as family
-use Rattle.frame.specs.Demand2.{Demand2, demand2}
 use Rattle.frame.specs.Frame.{byte, sealed_sum, sealed_length, sealed_bytes, opened}
 use Rattle.reply.specs.Layout.{Fields, reply, InRange, reply_fits, data_at, head, layout}
 use Rattle.reply.specs.Reading.{read_reply, fields_of}
@@ -37,7 +36,7 @@ reply_reads t s l h m =
     }
 
 -- what was written is read as its fields
-read_written : (f : Fields) (x : List ℕ) → frame_of f ≡ full x → Reads x f
+pub read_written : (f : Fields) (x : List ℕ) → frame_of f ≡ full x → Reads x f
 unfolding reply_frame
 read_written (reply t s l) x =
     demand_elim (is_reply t) 2
@@ -45,12 +44,12 @@ read_written (reply t s l) x =
     (λ m e. let o : layout (reply t s l) ≡ x = full_one e in rw o at (reply_reads t s l h (leb-true (length l) reply_data m))))
 
 -- in range: the frame is the layout
-in_range_written : (f : Fields) → InRange f → frame_of f ≡ full (layout f)
+pub in_range_written : (f : Fields) → InRange f → frame_of f ≡ full (layout f)
 unfolding reply_frame
 in_range_written (reply t s l) (reply_fits h m b) = rw (h, le-leb (length l) reply_data m)
 
 -- an accepted datagram is a frame: the fields that it gives are in range, and it is their layout
-accepted_frame : (d : List ℕ) (r : Reply) → Bytes d → read_reply d ≡ full r → InRange (fields_of r d) × (d ≡ layout (fields_of r d))
+pub accepted_frame : (d : List ℕ) (r : Reply) → Bytes d → read_reply d ≡ full r → InRange (fields_of r d) × (d ≡ layout (fields_of r d))
 unfolding read_reply
 accepted_frame d r bs =
     demand_elim (leb reply_least (length d)) 1
@@ -71,20 +70,14 @@ accepted_frame d r bs =
     rw (← full_one e) (reply_fits h₂ short b, o))))))
 
 -- each frame is a run of bytes
-frame_bytes : (f : Fields) → InRange f → Bytes (layout f)
+pub frame_bytes : (f : Fields) → InRange f → Bytes (layout f)
 frame_bytes (reply t s l) (reply_fits h m b) =
     let rest = bytes_tail b in
     sealed_bytes (bytes_cons (bytes_head b) (bytes_cons (bytes_head rest) (bytes_cons {b = length l} (omega arith) (bytes_tail rest))))
 
 -- whose exclusive-or is 0, and is accepted
-frame_sum : (f : Fields) → InRange f → sum_of (layout f) ≡ 0
+pub frame_sum : (f : Fields) → InRange f → sum_of (layout f) ≡ 0
 frame_sum f i = sealed_sum (head f)
 
-frame_accepted : (f : Fields) → InRange f → Reads (layout f) f
+pub frame_accepted : (f : Fields) → InRange f → Reads (layout f) f
 frame_accepted (reply t s l) (reply_fits h m b) = reply_reads t s l h m
-
--- DEMAND 2 FOR REPLIES. Whatever is in range may be written
-pub replies : Demand2 InRange layout read_reply fields_of InRange frame_of
-replies =
-    demand2 InRange layout read_reply fields_of InRange frame_of
-    accepted_frame frame_bytes frame_sum frame_accepted (λ f i. i) in_range_written read_written

@@ -9,7 +9,6 @@ use Rattle.frame.specs.Frame.{byte}
 use Rattle.reply.specs.Layout.{data_at}
 use Rattle.reply.specs.Reading.{read_reply}
 use Rattle.reply.specs.Writing.{reply_frame}
-use Rattle.reply.specs.Demand2.{replies}
 use Rattle.reply.specs.declared.Reply.{Reply}
 
 -- an accepted reply has its data
@@ -26,8 +25,3 @@ read_fits d r =
     let l = eqb-true (length d) (byte 2 d + reply_least) h₅ in
     let m = leb-true (byte 2 d) reply_data h₄ in
     (omega arith, omega arith))))))
-
--- written again with its own data, it is the frame to write
-pub read_again : (d : List ℕ) (r : Reply) → Bytes d → read_reply d ≡ full r
-    → reply_frame r.kind r.sequence (take r.n (drop data_at d)) ≡ full d
-read_again d r b e = replies.written_read d r b e (replies.accepted_frame d r b e).0

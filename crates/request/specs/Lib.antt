@@ -5,9 +5,7 @@ pub mod Reading
 pub mod Writing
 -- what is claimed of it
 pub mod One
-pub mod Demand2
-pub mod Retired
-pub mod Profiled
 -- what only serves proofs
 pub mod Reads
 pub mod Coloured
+pub mod Profiled

@@ -1,4 +1,4 @@
-// The codec for programs in C and Rust: `rt staticlib wickanchor` makes a static library of the functions below, for x86-64. A run of
+// The codec for programs in C and Rust: `rt lib` makes out/libwickanchor.a of the functions below, a static library for x86-64. A run of
 // bytes is a pointer and then a length; a result is a struct by value, laid out as C does. A refusal is its number by documents 01 and 02,
 // and 0 stands for none; every other field of a refused call is 0, but for a mark, bytes in use and a summary that were handed in.
 // include/wickanchor.h declares them for C. Each function hands on what the crate of its subject answers, as crates c_requests, c_datagrams,
@@ -9,7 +9,7 @@ ghost use Rattle.std.specs.Prelude.{◌≡◌, not, [], ◌∷◌, eqb};
 ghost use Rattle.refusal.specs.Test.{flag};
 ghost use Rattle.sum.specs.Sum.{sum_of};
 ghost use Rattle.frame.specs.Relay.{relayed};
-ghost use Rattle.target.specs.Target.{lights_of, status_of, line_of_lem, device_of, device_number};
+ghost use Rattle.target.specs.Target.{lights_of, status_of, line_of, device_of, device_number};
 ghost use Rattle.command.specs.Command.{is_known, numbers_in};
 ghost use Rattle.command.specs.Colours.{xy_type, tc_type, rgbwaf_type};
 ghost use Rattle.profile.specs.declared.Profile.TheVariants.{Open, Quiet};
@@ -581,7 +581,7 @@ pub extern "C" fn wick_filter(s: &[u8], i: usize) -> WickFilter
 // The target on the line of a group by its number.
 #[unsafe(no_mangle)]
 pub extern "C" fn wick_group_target(group: u8) -> WickNumber
-    ensures { result ≡ line_out (line_of_lem (record { 0 = group })) }
+    ensures { result ≡ line_out (line_of (record { 0 = group })) }
 {
     c_values::line_out(Group(group).line_target())
 }

@@ -1,4 +1,5 @@
 use mathlib.Core.Path.{sym, ap, ◌∙◌}
+use mathlib.Core.List.{[]}
 use lib.ListN.{length-take}
 use native.Mathlib.Omega.{arith}
 use Rattle.refusal.specs.Answer.{Answer, told}

@@ -5,7 +5,7 @@ use native.Mathlib.Omega.{arith}
 use Rattle.refusal.specs.Answer.{full, told}
 use Rattle.led.specs.Led.{part_at, said_part}
 use Rattle.led.specs.Cut.{part_there}
-use Rattle.led.specs.Parts.{whole_next, whole_end, whole_cut}
+use Rattle.led.proofs.Parts.{whole_next, whole_end, whole_cut}
 use Rattle.led.proofs.is_whole.Goals as goal
 
 pub returns-in_default : goal.returns-in_default

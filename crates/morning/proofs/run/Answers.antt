@@ -2,7 +2,7 @@ use mathlib.Core.Path.{sym, ◌∙◌}
 use native.Mathlib.Omega.{arith}
 use Rattle.refusal.specs.Answer.{told}
 use Rattle.capture.specs.Capture.{said_opening}
-use Rattle.morning.specs.Ways.{letter_capture, letter_cut, letter_all}
+use Rattle.morning.proofs.Ways.{letter_capture, letter_cut, letter_all}
 use Rattle.morning.proofs.run.Goals as goal
 
 pub returns-then-not-is_whole : goal.returns-then-not-is_whole

@@ -1,7 +1,7 @@
 use mathlib.Core.Path.{sym, ◌∙◌}
 use Rattle.refusal.specs.Answer.{told}
 use Rattle.capture.specs.Capture.{said_front}
-use Rattle.morning.specs.Ways.{at_capture, at_cut, at_all}
+use Rattle.morning.proofs.Ways.{at_capture, at_cut, at_all}
 use Rattle.morning.proofs.run_at.Goals as goal
 
 pub returns-then-not-is_whole : goal.returns-then-not-is_whole

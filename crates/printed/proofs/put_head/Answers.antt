@@ -1,6 +1,6 @@
 use Prim.Native.Nat.{◌+◌, ◌/◌, ◌%◌}
 use mathlib.Core.Path.{refl}
-use mathlib.Core.List.{◌∷◌}
+use mathlib.Core.List.{[], ◌∷◌}
 use native.Mathlib.Numerals.{add-one, add-two, add-three, add-four}
 use Rattle.lent.specs.Puts.{stored}
 use Rattle.printed.specs.Text.{blank}

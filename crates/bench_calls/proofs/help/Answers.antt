@@ -1,0 +1,6 @@
+use Rattle.lent.specs.Behind.{puts_next, puts_none}
+use borrow.Author.Rules.{rules}
+use Rattle.bench_calls.proofs.help.Goals as goal
+
+pub returns : goal.returns
+returns c = search (puts_next, puts_none, rules)

@@ -1,0 +1,5 @@
+use Rattle.lent.specs.Behind.{puts_next, puts_none}
+use Rattle.clock_rows.proofs.clock.Goals as goal
+
+pub returns : goal.returns
+returns c = puts_next c.word-a.ensures (puts_next c.word.ensures (puts_none _ _))

@@ -1,0 +1,3 @@
+pub mod Singly
+pub mod Mornings
+pub mod Ways

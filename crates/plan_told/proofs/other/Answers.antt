@@ -1,0 +1,11 @@
+use Rattle.lent.specs.Behind.{puts_next, puts_none}
+use Rattle.plan_told.proofs.other.Goals as goal
+
+pub returns : goal.returns
+returns c =
+    let z = c in
+    let y = z in
+    let x = y in
+    let w = x in
+    let v = w in
+    rw (← v.byte_at-command.ensures) (puts_next v.word-a.ensures (puts_next w.hex-b.ensures (puts_next x.word-c.ensures (puts_next y.put-d.ensures (puts_next z.word.ensures (puts_none _ _))))))

@@ -1,0 +1,3 @@
+pub mod Demand2
+pub mod Retired
+pub mod Profiled

@@ -1,0 +1,9 @@
+use Rattle.lent.specs.Behind.{puts_next, puts_none}
+use Rattle.sheet_text.proofs.right.Goals as goal
+
+pub returns : goal.returns
+returns c =
+    let z = c in
+    let y = z in
+    let x = rw y.gap.ensures.0 at y.same-e.ensures in
+    puts_next x (puts_next z.word.ensures (puts_none _ _))
