@@ -4,7 +4,9 @@ use Rattle.std.specs.Prelude.{ℕ, ◌+◌, ◌<◌, List, [], ◌∷◌, ◌++�
 use Rattle.refusal.specs.Answer.{refused}
 use Rattle.sum.specs.Bytes.{Bytes}
 use Rattle.summary.specs.declared.Summary.{Summary}
+use Rattle.summary.specs.declared.Went.{Went}
 use Rattle.capture.specs.declared.Mark.{Mark}
+use Rattle.append.specs.Append.{verdict, appended_to}
 use Rattle.year.specs.Runs.{Call, goes_in}
 use Rattle.morning.specs.declared.Ran.{Ran}
 use Rattle.morning.specs.declared.RanAt.{RanAt}
