@@ -32,7 +32,7 @@ const TELLS: u64 = 67108864;
 // The most bytes of an argument: as many as a path has.
 const WORD: usize = 4095;
 
-// The room for what the system says of an error, which has at most 49 bytes, and the error's number behind it.
+// The room for what the system says of an error, and the error's number behind it: twice what the longest such text takes.
 const SAID: usize = 128;
 
 // The system's number for bytes that are no text.
@@ -87,7 +87,7 @@ fn text_of(e: &io::Error) -> [u8; SAID] {
     text
 }
 
-// How many bytes the system's text has there.
+// How many bytes the system's text has there: in none of them stands a bracket.
 fn said(text: &[u8]) -> usize
     ensures { result ≤ length text.now }
 {
