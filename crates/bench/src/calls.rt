@@ -22,8 +22,11 @@ use reader::Held;
 use request::Ipv4;
 use target::{Device, Group, LineTarget};
 
+// The room for the bytes of a line's call, and for a buffer that a call writes into.
+const SPACE: usize = 4096;
+
 // What the run carries from call to call. The bytes of the capture's buffer are lent beside it: they stand at the front of a larger one.
-#[derive(Drop)]
+#[derive(Clone, Copy)]
 pub struct State {
     book: Timed,
     request: Held,
@@ -158,7 +161,7 @@ fn write(n: usize, head: &[u8], data: &[u8], buffer: &mut [u8]) -> Wrote {
 
 // A writing call: the buffer, which is shown before and after, is the last group.
 fn wrote(n: usize, head: &[u8], data: &[u8], before: &[u8], out: &mut [u8], at: usize) -> usize {
-    let mut space = io::buffer();
+    let mut space = [0u8; SPACE];
     let buffer: &mut [u8] = &mut space;
     let e = lent::word(buffer, 0, before);
     if buffer.len() < e {
@@ -602,7 +605,7 @@ fn made(c: Call, state: State, bytes: &[u8], store: &mut [u8], out: &mut [u8], a
 
 // The answer to a line with a word in it.
 pub fn answer(state: State, line: &[u8], store: &mut [u8], out: &mut [u8], at: usize) -> Turn {
-    let mut space = io::buffer();
+    let mut space = [0u8; SPACE];
     let bytes: &mut [u8] = &mut space;
     let c = bench_calls::read(line, bytes);
     let Called::Call(call) = c else {

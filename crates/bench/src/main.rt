@@ -8,7 +8,7 @@
 mod calls;
 
 use calls::{State, Turn};
-use libc::{STDERR_FILENO, STDIN_FILENO, STDOUT_FILENO};
+use std::io::Read;
 
 // A line has at most so many bytes.
 const LONGEST: usize = 4095;
@@ -17,9 +17,14 @@ const LONGEST: usize = 4095;
 // buffer of a third of a line before and after.
 const FULL: usize = 32768;
 
+// The room for a line, and for the bytes of a capture; and for a reading, and for answers that are not written out yet.
+const SPACE: usize = 4096;
+
+const PART: usize = 65536;
+
 // The line that is being read: how many bytes of it are held, whether there was no room for more of them, whether a word was
 // among all that it has had, and whether it has ended.
-#[derive(Drop)]
+#[derive(Clone, Copy)]
 struct Text {
     len: usize,
     long: bool,
@@ -29,7 +34,7 @@ struct Text {
 
 // Where the run stands: which bytes of the last reading are still to be taken, the line, how far the output buffer is filled,
 // and whether no more is to be read.
-#[derive(Drop)]
+#[derive(Clone, Copy)]
 struct Run {
     from: usize,
     to: usize,
@@ -68,11 +73,11 @@ fn begin(over: bool) -> Run {
 }
 
 // Writes what the output buffer holds; whether that went well.
-fn flush(out: &[u8], at: usize) -> bool {
-    if io::write_all(STDOUT_FILENO, bench_words::part(out, 0, at)) {
+fn flush(rt: &(impl Print + Eprint), out: &[u8], at: usize) -> bool {
+    if rt.write_all(bench_words::part(out, 0, at)).is_ok() {
         return true;
     }
-    io::write_all(STDERR_FILENO, b"bench: writing standard output failed\n");
+    let _ = rt.eprint("bench: writing standard output failed\n");
     false
 }
 
@@ -106,29 +111,39 @@ fn cut(r: Run, input: &[u8], line: &mut [u8]) -> Run {
 }
 
 // One reading of the input. Its end ends a line that has begun; a failed reading is no end, and the line is not answered.
-fn read(t: Text, input: &mut [u8]) -> Run {
-    let got = libc::read(STDIN_FILENO, input);
-    if got < 0 {
-        io::write_all(STDERR_FILENO, b"bench: reading standard input failed\n");
+fn read(rt: &impl Eprint, source: &mut impl Read, t: Text, input: &mut [u8]) -> Run {
+    let (got, good) = match source.read(input) {
+        Ok(n) => (n, true),
+        Err(_) => (0, false),
+    };
+    if !good {
+        let _ = rt.eprint("bench: reading standard input failed\n");
     }
     let text = Text {
         len: t.len,
         long: t.long,
         word: t.word,
-        ended: (got == 0) & ((0 < t.len) | t.long),
+        ended: good & (got == 0) & ((0 < t.len) | t.long),
     };
     Run {
         from: 0,
-        to: io::count(got, input),
+        to: got,
         text,
         at: 0,
-        over: got <= 0,
+        over: got == 0,
     }
 }
 
 // Until a line has ended, or nothing more is to be read: the next bytes. All that was answered is written out before the
 // input is read again. Nothing is answered behind a failed writing.
-fn turned(r: Run, input: &mut [u8], line: &mut [u8], out: &[u8]) -> Run {
+fn turned(
+    rt: &(impl Print + Eprint),
+    source: &mut impl Read,
+    r: Run,
+    input: &mut [u8],
+    line: &mut [u8],
+    out: &[u8],
+) -> Run {
     let at = r.at;
     let text = r.text;
     let from = r.from;
@@ -137,7 +152,7 @@ fn turned(r: Run, input: &mut [u8], line: &mut [u8], out: &[u8]) -> Run {
     if left & (at < FULL) {
         return cut(r, input, line);
     }
-    if !flush(out, at) {
+    if !flush(rt, out, at) {
         return begin(true);
     }
     if left {
@@ -149,7 +164,7 @@ fn turned(r: Run, input: &mut [u8], line: &mut [u8], out: &[u8]) -> Run {
             over: false,
         };
     }
-    read(text, input)
+    read(rt, source, text, input)
 }
 
 // The answer to a line that has ended, without its line feed.
@@ -183,6 +198,8 @@ fn onward(r: Run, out: &mut [u8], at: usize) -> Run {
 
 // One turn of the run: the next bytes, and the answer where they end a line. The last answers are written out.
 fn turn(
+    rt: &(impl Print + Eprint),
+    source: &mut impl Read,
     run: Run,
     state: State,
     input: &mut [u8],
@@ -190,11 +207,11 @@ fn turn(
     store: &mut [u8],
     out: &mut [u8],
 ) -> Next {
-    let r = turned(run, input, line, out);
+    let r = turned(rt, source, run, input, line, out);
     let t = answered(r, state, line, store, out);
     let after = onward(r, out, t.at);
     if after.over {
-        flush(out, after.at);
+        flush(rt, out, after.at);
     }
     let next = t.state;
     Next {
@@ -205,28 +222,40 @@ fn turn(
 }
 
 // Reads to the end of the input. Nothing says that it ends, so the turns are counted.
-fn read_all(input: &mut [u8], line: &mut [u8], store: &mut [u8], out: &mut [u8]) {
+fn read_all(
+    rt: &(impl Print + Eprint),
+    source: &mut impl Read,
+    input: &mut [u8],
+    line: &mut [u8],
+    store: &mut [u8],
+    out: &mut [u8],
+) {
     let mut next = Next {
         run: begin(false),
         state: calls::fresh(),
         over: false,
     };
-    let mut left = u64::MAX;
-    while 0 < left {
+    for _ in 0..u64::MAX {
         let run = next.run;
         let state = next.state;
-        next = turn(run, state, input, line, store, out);
+        next = turn(rt, source, run, state, input, line, store, out);
         if next.over {
             return;
         }
-        left -= 1;
     }
 }
 
-fn main() {
-    let mut input = io::large_buffer();
-    let mut line = io::buffer();
-    let mut store = io::buffer();
-    let mut out = io::large_buffer();
-    read_all(&mut input, &mut line, &mut store, &mut out);
+fn main(rt: HostRuntime) {
+    let mut input = [0u8; PART];
+    let mut line = [0u8; SPACE];
+    let mut store = [0u8; SPACE];
+    let mut out = [0u8; PART];
+    read_all(
+        &rt,
+        &mut rt.stdin(),
+        &mut input,
+        &mut line,
+        &mut store,
+        &mut out,
+    );
 }

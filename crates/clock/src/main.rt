@@ -2,10 +2,13 @@
 // prints what crate clock_rows puts of each line; crate clock_asked reads the date.
 #![tactic(auto)]
 
-ghost use Rattle.std.specs.Prelude.{◌≤◌, ◌≡◌, length};
+ghost use Rattle.std.specs.Prelude.{◌≤◌, ◌≡◌, ◌+◌, length, IfOk};
 
 use clock_asked::DayAsked;
-use libc::{STDERR_FILENO, STDIN_FILENO, STDOUT_FILENO};
+use std::env::FillError;
+use std::io;
+use std::io::Read;
+use std::rt::Env;
 
 // The most bytes of the input, and the room to read it in: one byte more tells that it is longer.
 const MOST: usize = 1048576;
@@ -36,17 +39,17 @@ fn space() -> [u8; SPACE]
 }
 
 // A line on standard error that ends in a word of the command line.
-fn complain(what: &[u8], word: &[u8]) {
-    io::write_all(STDERR_FILENO, b"clock: ");
-    io::write_all(STDERR_FILENO, what);
-    io::write_all(STDERR_FILENO, word);
-    io::write_all(STDERR_FILENO, b"\n");
+fn complain(rt: &HostRuntime, what: &[u8], word: &[u8]) {
+    let err = rt.stderr();
+    let _ = err.write_all(b"clock: ");
+    let _ = err.write_all(what);
+    let _ = err.write_all(word);
+    let _ = err.write_all(b"\n");
 }
 
-fn help() {
-    io::write_all(
-        STDERR_FILENO,
-        b"Usage: clock DATE\n\
+fn help(rt: &impl Eprint) {
+    let _ = rt.eprint(
+        "Usage: clock DATE\n\
 \n\
 Says of the clocks of a Domintell site whether each of them runs on a day, and\n\
 when. Reads the clocks from standard input, a line for each, and prints a row for\n\
@@ -65,15 +68,15 @@ Example: clock 2026-03-02 < site.clocks\n",
 }
 
 // Writes so many bytes of a text, and says whether that went well.
-fn write(fd: i32, out: &[u8], n: usize) -> bool
+fn write(to: &impl Print, out: &[u8], n: usize) -> bool
     requires { n ≤ length out.now }
 {
-    io::write_all(fd, &out[..n])
+    to.write_all(&out[..n]).is_ok()
 }
 
 // Prints the header and the rows, and whether that went well. Rows are written when no other has room behind them, before something is told of a line, and
 // at the end.
-fn print(midnight: u32, text: &[u8]) -> bool {
+fn print(rt: &HostRuntime, midnight: u32, text: &[u8]) -> bool {
     let mut out = [0u8; ROOM];
     let mut err = [0u8; clock_told::TOLD];
     let mut at = clock_rows::header(&mut out, 0);
@@ -85,102 +88,107 @@ fn print(midnight: u32, text: &[u8]) -> bool {
         n += 1;
         at = t.at;
         if (0 < t.told) | (LAST < at) {
-            if !write(STDOUT_FILENO, &out, at) {
+            if !write(rt, &out, at) {
                 return false;
             }
             at = 0;
-            write(STDERR_FILENO, &err, t.told);
+            write(&rt.stderr(), &err, t.told);
         }
     }
-    write(STDOUT_FILENO, &out, at)
+    write(rt, &out, at)
 }
 
 // Reads once behind what was read.
-fn read_behind(buf: &mut [u8], n: usize) -> isize
+fn read_behind(input: &mut impl Read, buf: &mut [u8], n: usize) -> io::Result<usize>
     requires { n ≤ length buf.old }
+    ensures { IfOk result (λ k. n + k ≤ length buf.new) }
 {
-    libc::read(STDIN_FILENO, &mut buf[n..])
+    input.read(&mut buf[n..])
 }
 
-// Reads standard input to its end, or until there is no room. (The loop has to count down: nothing says that input ends.)
-fn read_all(buf: &mut [u8]) -> Got {
+// Reads standard input to its end, or until there is no room. (The loop has to count: nothing says that input ends.)
+fn read_all(input: &mut impl Read, buf: &mut [u8]) -> Got {
     let mut n: usize = 0;
-    let mut reads = u64::MAX;
-    while 0 < reads {
+    for _ in 0..u64::MAX {
         if buf.len() <= n {
             return Got::Long;
         }
-        let got = read_behind(buf, n);
-        if got < 0 {
+        let Ok(k) = read_behind(input, buf, n) else {
             return Got::Failed;
-        }
-        let k = io::count(got, &buf[n..]);
+        };
         if k == 0 {
             return Got::Bytes(n);
         }
         n += k;
-        reads -= 1;
     }
     Got::Long
 }
 
 // The input read, and the rows printed.
-fn rows(midnight: u32) {
+fn rows(rt: &HostRuntime, midnight: u32) {
     let mut buf = space();
-    let got = read_all(&mut buf);
+    let got = read_all(&mut rt.stdin(), &mut buf);
     match got {
         Got::Bytes(n) => {
             if n <= SPACE {
-                if !print(midnight, &buf[..n]) {
-                    complain(b"writing standard output failed", b"");
+                if !print(rt, midnight, &buf[..n]) {
+                    complain(rt, b"writing standard output failed", b"");
                 }
             }
         }
-        Got::Failed => complain(b"reading standard input failed", b""),
-        Got::Long => complain(b"standard input has more than 1048576 bytes", b""),
+        Got::Failed => complain(rt, b"reading standard input failed", b""),
+        Got::Long => complain(rt, b"standard input has more than 1048576 bytes", b""),
     }
 }
 
 // The day that the argument says, and its rows.
-fn day(word: &[u8]) {
+fn day(rt: &HostRuntime, word: &[u8]) {
     let asked = clock_asked::day_of(word);
     match asked {
-        DayAsked::Midnight(t) => rows(t),
-        DayAsked::NotADate => complain(b"DATE is not a date as in 2026-03-02: ", word),
-        DayAsked::NoSuchDate => complain(b"DATE is a date that does not exist: ", word),
+        DayAsked::Midnight(t) => rows(rt, t),
+        DayAsked::NotADate => complain(rt, b"DATE is not a date as in 2026-03-02: ", word),
+        DayAsked::NoSuchDate => complain(rt, b"DATE is a date that does not exist: ", word),
         DayAsked::Outside => complain(
+            rt,
             b"DATE is a date before 2000-01-01 or behind 2099-12-31: ",
             word,
         ),
     }
 }
 
-fn main() {
-    if os::arg_count() < 2 {
-        help();
+// Whether the command line has an argument of this number, where 0 is the program's own name.
+fn has_argument(rt: &impl Env, i: usize) -> bool {
+    !matches!(rt.arg(i, &mut []), Err(FillError::NotPresent))
+}
+
+fn main(rt: HostRuntime) {
+    if !has_argument(&rt, 1) {
+        help(&rt);
         return;
     }
     let mut word = [0u8; WORD];
-    let n = os::arg(1, &mut word);
-    let long = os::errno() != 0;
+    let got = rt.arg(1, &mut word);
+    let long = got.is_err();
+    let n = got.unwrap_or(0);
     if options::same(&word[..n], b"--help") {
-        help();
+        help(&rt);
         return;
     }
     if options::is_option(&word[..n]) {
-        complain(b"no such option: ", &word[..n]);
+        complain(&rt, b"no such option: ", &word[..n]);
         return;
     }
-    if os::arg_count() != 2 {
+    if has_argument(&rt, 2) {
         complain(
+            &rt,
             b"1 argument is wanted, a date as in 2026-03-02; clock --help says more",
             b"",
         );
         return;
     }
     if long {
-        complain(b"the argument is too long", b"");
+        complain(&rt, b"the argument is too long", b"");
         return;
     }
-    day(&word[..n]);
+    day(&rt, &word[..n]);
 }

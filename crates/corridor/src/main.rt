@@ -3,14 +3,18 @@
 // sheet_told put: what any program reports that goes so is `run-reports` of by_parts' specs/Run. Its memory does not grow with the capture.
 #![tactic(auto)]
 
-ghost use Rattle.std.specs.Prelude.{◌≤◌};
+ghost use Rattle.std.specs.Prelude.{◌≤◌, length};
 
 use asked::{Address, Boundary, Number};
 use by_parts::{How, SoFar};
 use event::Mac;
-use libc::{STDERR_FILENO, STDIN_FILENO, STDOUT_FILENO};
 use options::Asked;
 use season::{Boundaries, Corridor, Season};
+use std::env::FillError;
+use std::fs::File;
+use std::io;
+use std::io::{Read, Write};
+use std::rt::Env;
 use summary::Went;
 
 // How many arguments there are behind the program's own name: the file, MAC, target, instance, and three boundaries.
@@ -28,6 +32,12 @@ const TELLS: u64 = 67108864;
 // The most bytes of an argument: as many as a path has.
 const WORD: usize = 4095;
 
+// The room for what the system says of an error, which has at most 49 bytes, and the error's number behind it.
+const SAID: usize = 128;
+
+// The system's number for bytes that are no text.
+const NO_TEXT: i32 = 84;
+
 // The greatest target and instance.
 const TARGET: u32 = 4294967295;
 
@@ -41,35 +51,69 @@ enum Form {
     Svg,
 }
 
-// Where a run stands: the report so far, how many bytes were read, and whether it goes on.
+// Where a run stands: the report so far, how many bytes were read, and whether it goes on; and of a read that failed the error.
 #[derive(Drop)]
 struct Run {
     how: How,
     so_far: SoFar,
     bytes: u64,
+    fault: Option<io::Error>,
 }
 
 // A line on standard error that ends in a word of the command line.
-fn complain(what: &[u8], word: &[u8]) {
-    io::write_all(STDERR_FILENO, b"corridor: ");
-    io::write_all(STDERR_FILENO, what);
-    io::write_all(STDERR_FILENO, word);
-    io::write_all(STDERR_FILENO, b"\n");
+fn complain(rt: &HostRuntime, what: &[u8], word: &[u8]) {
+    let err = rt.stderr();
+    let _ = err.write_all(b"corridor: ");
+    let _ = err.write_all(what);
+    let _ = err.write_all(word);
+    let _ = err.write_all(b"\n");
 }
 
 // One that ends in the name of an argument and what is wrong with it, and in the word.
-fn complain_of(name: &[u8], what: &[u8], word: &[u8]) {
-    io::write_all(STDERR_FILENO, b"corridor: ");
-    io::write_all(STDERR_FILENO, name);
-    io::write_all(STDERR_FILENO, what);
-    io::write_all(STDERR_FILENO, word);
-    io::write_all(STDERR_FILENO, b"\n");
+fn complain_of(rt: &HostRuntime, name: &[u8], what: &[u8], word: &[u8]) {
+    let err = rt.stderr();
+    let _ = err.write_all(b"corridor: ");
+    let _ = err.write_all(name);
+    let _ = err.write_all(what);
+    let _ = err.write_all(word);
+    let _ = err.write_all(b"\n");
 }
 
-fn help() {
-    io::write_all(
-        STDERR_FILENO,
-        b"Usage: corridor [--text | --svg] FILE MAC TARGET INSTANCE FIRST SECOND THIRD\n\
+// What std says of an error, and zeros behind it: the system's text, and in brackets the error's number.
+fn text_of(e: &io::Error) -> [u8; SAID] {
+    let mut text = [0u8; SAID];
+    let mut rest: &mut [u8] = &mut text;
+    let _ = write!(rest, "{e}");
+    text
+}
+
+// How many bytes the system's text has there.
+fn said(text: &[u8]) -> usize
+    ensures { result ≤ length text.now }
+{
+    let end = words::until(text, 0, 0);
+    let n = words::until(text, 0, b'(');
+    if (n < end) & (0 < n) {
+        return n - 1;
+    }
+    end
+}
+
+// One that tells of a file what the system says of an error.
+fn fail(rt: &HostRuntime, what: &[u8], word: &[u8], e: &io::Error) {
+    let text = text_of(e);
+    let n = said(&text);
+    let err = rt.stderr();
+    let _ = err.write_all(what);
+    let _ = err.write_all(word);
+    let _ = err.write_all(b": ");
+    let _ = err.write_all(&text[..n]);
+    let _ = err.write_all(b"\n");
+}
+
+fn help(rt: &impl Eprint) {
+    let _ = rt.eprint(
+        "Usage: corridor [--text | --svg] FILE MAC TARGET INSTANCE FIRST SECOND THIRD\n\
 \n\
 Reports the occupied events, button presses and holds of one corridor in a capture,\n\
 and the gaps between its occupied events, in four seasons. Prints CSV.\n\
@@ -92,36 +136,35 @@ Example: corridor --text year.capture 7C:BA:CC:2F:40:2E 68 3 2026-03-01 2026-06-
 }
 
 // An argument as a number, or a line that it is none.
-fn number(i: usize, most: u32, what: &[u8]) -> Number {
+fn number(rt: &HostRuntime, i: usize, most: u32, what: &[u8]) -> Number {
     let mut word = [0u8; WORD];
-    let n = os::arg(i, &mut word);
-    if os::errno() != 0 {
-        complain(b"an argument is too long", b"");
+    let Ok(n) = rt.arg(i, &mut word) else {
+        complain(rt, b"an argument is too long", b"");
         return Number::Not;
-    }
+    };
     let r = asked::number_of(&word[..n], most);
     match r {
         Number::Of(k) => Number::Of(k),
         Number::Not => {
-            complain(what, &word[..n]);
+            complain(rt, what, &word[..n]);
             Number::Not
         }
     }
 }
 
 // An argument as a MAC address, or a line that it is none.
-fn mac(i: usize) -> Address {
+fn mac(rt: &HostRuntime, i: usize) -> Address {
     let mut word = [0u8; WORD];
-    let n = os::arg(i, &mut word);
-    if os::errno() != 0 {
-        complain(b"an argument is too long", b"");
+    let Ok(n) = rt.arg(i, &mut word) else {
+        complain(rt, b"an argument is too long", b"");
         return Address::Not;
-    }
+    };
     let r = asked::mac_of(&word[..n]);
     match r {
         Address::Of(m) => Address::Of(m),
         Address::Not => {
             complain(
+                rt,
                 b"MAC is not six bytes in hexadecimal, as in 7C:BA:CC:2F:40:2E: ",
                 &word[..n],
             );
@@ -131,23 +174,29 @@ fn mac(i: usize) -> Address {
 }
 
 // An argument as a boundary, or a line that it is none.
-fn boundary(i: usize, name: &[u8]) -> Number {
+fn boundary(rt: &HostRuntime, i: usize, name: &[u8]) -> Number {
     let mut word = [0u8; WORD];
-    let n = os::arg(i, &mut word);
-    if os::errno() != 0 {
-        complain(b"an argument is too long", b"");
+    let Ok(n) = rt.arg(i, &mut word) else {
+        complain(rt, b"an argument is too long", b"");
         return Number::Not;
-    }
+    };
     let r = asked::boundary_of(&word[..n]);
     match r {
         Boundary::At(s) => return Number::Of(s),
         Boundary::Neither => complain_of(
+            rt,
             name,
             b" is neither seconds, 0 to 4294967295, nor a date, as in 2026-03-01: ",
             &word[..n],
         ),
-        Boundary::NoSuchDate => complain_of(name, b" is a date that does not exist: ", &word[..n]),
+        Boundary::NoSuchDate => complain_of(
+            rt,
+            name,
+            b" is a date that does not exist: ",
+            &word[..n],
+        ),
         Boundary::Outside => complain_of(
+            rt,
             name,
             b" is a date before 1970-01-01 or behind 2106-02-07: ",
             &word[..n],
@@ -157,11 +206,11 @@ fn boundary(i: usize, name: &[u8]) -> Number {
 }
 
 // So many bytes of a text, and whether they were written.
-fn write(fd: i32, out: &[u8], n: usize) -> bool {
+fn write(to: &impl Print, out: &[u8], n: usize) -> bool {
     if out.len() < n {
         return false;
     }
-    io::write_all(fd, &out[..n])
+    to.write_all(&out[..n]).is_ok()
 }
 
 // Puts the sheet in its form.
@@ -181,6 +230,7 @@ fn put(
 
 // Prints the sheet.
 fn print(
+    rt: &HostRuntime,
     form: Form,
     out: &mut [u8],
     who: Corridor,
@@ -188,75 +238,75 @@ fn print(
     seasons: [Season; tally::SEASONS],
 ) {
     let n = put(form, out, who, bounds, seasons);
-    if write(STDOUT_FILENO, out, n) {
+    if write(rt, out, n) {
         return;
     }
-    complain(b"writing standard output failed", b"");
+    complain(rt, b"writing standard output failed", b"");
 }
 
 // Tells why there is none.
-fn tell(out: &mut [u8], x: SoFar, k: u8) {
+fn tell(rt: &HostRuntime, out: &mut [u8], x: SoFar, k: u8) {
     let n = sheet_told::refused(out, 0, x, k);
-    write(STDERR_FILENO, out, n);
+    write(&rt.stderr(), out, n);
 }
 
 // The one or the other.
-fn finish(form: Form, x: SoFar) {
+fn finish(rt: &HostRuntime, form: Form, x: SoFar) {
     let mut out = [0u8; ROOM];
     let r = by_parts::end(x);
     let went = r.went;
     match went {
-        Went::Refused(k) => tell(&mut out, x, k),
+        Went::Refused(k) => tell(rt, &mut out, x, k),
         Went::Well => {
             let who = x.who;
             let bounds = x.bounds;
             let seasons = r.seasons;
-            print(form, &mut out, who, bounds, seasons);
+            print(rt, form, &mut out, who, bounds, seasons);
         }
     }
 }
 
 // Tells how far a capture was read.
-fn tell_read(out: &mut [u8], bytes: u64, records: u64) {
+fn tell_read(rt: &HostRuntime, out: &mut [u8], bytes: u64, records: u64) {
     let n = sheet_told::read(out, 0, bytes, records);
-    write(STDERR_FILENO, out, n);
+    write(&rt.stderr(), out, n);
 }
 
 // The same, where that passed another step.
-fn progress(before: u64, bytes: u64, records: u64) {
+fn progress(rt: &HostRuntime, before: u64, bytes: u64, records: u64) {
     if before / TELLS == bytes / TELLS {
         return;
     }
     let mut line = [0u8; LINE];
-    tell_read(&mut line, bytes, records);
+    tell_read(rt, &mut line, bytes, records);
 }
 
 // One read, and what it makes of the report.
-fn read(fd: i32, run: Run, buf: &mut [u8]) -> Run {
+fn read(rt: &HostRuntime, input: &mut impl Read, run: Run, buf: &mut [u8]) -> Run {
     let x = run.so_far;
-    let got = libc::read(fd, buf);
+    let (got, more, fault) = match input.read(buf) {
+        Ok(n) => (n as isize, n as u64, None),
+        Err(e) => (-1, 0, Some(e)),
+    };
     let t = by_parts::turn(x, got, buf);
-    let bytes = season::plus(run.bytes, io::count(got, buf) as u64);
+    let bytes = season::plus(run.bytes, more);
     let y = t.so_far;
-    let passed = y.passed;
-    progress(run.bytes, bytes, passed.records);
-    let how = t.how;
+    progress(rt, run.bytes, bytes, y.passed.records);
     Run {
-        how,
+        how: t.how,
         so_far: y,
         bytes,
+        fault,
     }
 }
 
-// Read by read. (The loop has to count down: nothing says that input ends.)
-fn follow(fd: i32, buf: &mut [u8], from: Run) -> Run {
+// Read by read. (The loop has to count: nothing says that input ends.)
+fn follow(rt: &HostRuntime, input: &mut impl Read, buf: &mut [u8], from: Run) -> Run {
     let mut run = from;
-    let mut turns = u64::MAX;
-    while 0 < turns {
-        run = read(fd, run, buf);
-        let how = run.how;
-        match how {
-            How::Goes => turns -= 1,
+    for _ in 0..u64::MAX {
+        run = read(rt, input, run, buf);
+        match run.how {
+            How::Goes => (),
             How::Ended => return run,
             How::Failed => return run,
         }
@@ -265,64 +315,78 @@ fn follow(fd: i32, buf: &mut [u8], from: Run) -> Run {
 }
 
 // The sheet of an open file, whose name is at hand for what fails.
-fn report(form: Form, fd: i32, path: &[u8], who: Corridor, bounds: Boundaries) {
+fn report(
+    rt: &HostRuntime,
+    form: Form,
+    input: &mut impl Read,
+    path: &[u8],
+    who: Corridor,
+    bounds: Boundaries,
+) {
     let mut buf = [0u8; PART];
     let start = Run {
         how: How::Goes,
         so_far: by_parts::begin(who, bounds),
         bytes: 0,
+        fault: None,
     };
-    let run = follow(fd, &mut buf, start);
+    let run = follow(rt, input, &mut buf, start);
     let how = run.how;
     match how {
         How::Failed => {
-            io::write_all(STDERR_FILENO, b"corridor: reading ");
-            os::fail(path);
+            if let Some(e) = run.fault {
+                fail(rt, b"corridor: reading ", path, &e);
+            }
         }
         How::Ended => {
             let x = run.so_far;
-            finish(form, x);
+            finish(rt, form, x);
         }
         How::Goes => (),
     }
 }
 
+// Opens a file. (std takes text alone for a file's name: of other bytes is told what the system says where it takes none.)
+fn open_file(rt: &HostRuntime, path: &[u8]) -> io::Result<File> {
+    match str::from_utf8(path) {
+        Ok(name) => File::open(rt, name),
+        Err(_) => Err(io::Error::from_raw_os_error(NO_TEXT)),
+    }
+}
+
 // Opens the file, or takes standard input for it.
-fn open(form: Form, i: usize, who: Corridor, bounds: Boundaries) {
+fn open(rt: &HostRuntime, form: Form, i: usize, who: Corridor, bounds: Boundaries) {
     let mut word = [0u8; WORD];
-    let n = os::arg(i, &mut word);
+    let n = rt.arg(i, &mut word).unwrap_or(0);
     let path = &word[..n];
     if options::is_input(path) {
-        report(form, STDIN_FILENO, path, who, bounds);
+        report(rt, form, &mut rt.stdin(), path, who, bounds);
         return;
     }
-    let fd = os::open_read(path);
-    if fd < 0 {
-        io::write_all(STDERR_FILENO, b"corridor: ");
-        os::fail(path);
-        return;
+    match open_file(rt, path) {
+        Ok(mut file) => report(rt, form, &mut file, path, who, bounds),
+        Err(e) => fail(rt, b"corridor: ", path, &e),
     }
-    report(form, fd, path, who, bounds);
-    libc::close(fd);
 }
 
 // The boundaries, and then the file.
-fn bounded(form: Form, i: usize, who: Corridor)
+fn bounded(rt: &HostRuntime, form: Form, i: usize, who: Corridor)
     requires { i ≤ 2 }
 {
-    let a = boundary(i + 4, b"FIRST");
+    let a = boundary(rt, i + 4, b"FIRST");
     let Number::Of(first) = a else {
         return;
     };
-    let b = boundary(i + 5, b"SECOND");
+    let b = boundary(rt, i + 5, b"SECOND");
     let Number::Of(second) = b else {
         return;
     };
-    let c = boundary(i + 6, b"THIRD");
+    let c = boundary(rt, i + 6, b"THIRD");
     let Number::Of(third) = c else {
         return;
     };
     open(
+        rt,
         form,
         i,
         who,
@@ -335,14 +399,15 @@ fn bounded(form: Form, i: usize, who: Corridor)
 }
 
 // The corridor, and then the boundaries.
-fn corridor(form: Form, i: usize)
+fn corridor(rt: &HostRuntime, form: Form, i: usize)
     requires { i ≤ 2 }
 {
-    let m = mac(i + 1);
+    let m = mac(rt, i + 1);
     let Address::Of(mac) = m else {
         return;
     };
     let t = number(
+        rt,
         i + 2,
         TARGET,
         b"TARGET is not a number from 0 to 4294967295: ",
@@ -350,11 +415,17 @@ fn corridor(form: Form, i: usize)
     let Number::Of(target) = t else {
         return;
     };
-    let k = number(i + 3, INSTANCE, b"INSTANCE is not a number from 0 to 255: ");
+    let k = number(
+        rt,
+        i + 3,
+        INSTANCE,
+        b"INSTANCE is not a number from 0 to 255: ",
+    );
     let Number::Of(instance) = k else {
         return;
     };
     bounded(
+        rt,
         form,
         i,
         Corridor {
@@ -365,39 +436,44 @@ fn corridor(form: Form, i: usize)
     );
 }
 
+// Whether the command line has an argument of this number, where 0 is the program's own name.
+fn has_argument(rt: &impl Env, i: usize) -> bool {
+    !matches!(rt.arg(i, &mut []), Err(FillError::NotPresent))
+}
+
 // The arguments from a place on, which has to be the file's.
-fn go(form: Form, i: usize)
+fn go(rt: &HostRuntime, form: Form, i: usize)
     requires { i ≤ 2 }
 {
-    if os::arg_count() != i + WORDS {
+    if !has_argument(rt, i + WORDS - 1) | has_argument(rt, i + WORDS) {
         complain(
+            rt,
             b"7 arguments are wanted behind the option, if there is one; corridor --help names them",
             b"",
         );
         return;
     }
     let mut word = [0u8; WORD];
-    os::arg(i, &mut word);
-    if os::errno() != 0 {
-        complain(b"an argument is too long", b"");
+    if rt.arg(i, &mut word).is_err() {
+        complain(rt, b"an argument is too long", b"");
         return;
     }
-    corridor(form, i);
+    corridor(rt, form, i);
 }
 
-fn main() {
-    if os::arg_count() < 2 {
-        help();
+fn main(rt: HostRuntime) {
+    if !has_argument(&rt, 1) {
+        help(&rt);
         return;
     }
     let mut word = [0u8; WORD];
-    let n = os::arg(1, &mut word);
+    let n = rt.arg(1, &mut word).unwrap_or(0);
     let first = options::option_of(&word[..n]);
     match first {
-        Asked::Help => help(),
-        Asked::Text => go(Form::Text, 2),
-        Asked::Svg => go(Form::Svg, 2),
-        Asked::NoOption => go(Form::Csv, 1),
-        Asked::NoSuch => complain(b"no such option: ", &word[..n]),
+        Asked::Help => help(&rt),
+        Asked::Text => go(&rt, Form::Text, 2),
+        Asked::Svg => go(&rt, Form::Svg, 2),
+        Asked::NoOption => go(&rt, Form::Csv, 1),
+        Asked::NoSuch => complain(&rt, b"no such option: ", &word[..n]),
     }
 }

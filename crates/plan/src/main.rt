@@ -2,12 +2,16 @@
 // plan_told puts of the answers of crates filter_plan and filter_since; crate plan_wanted reads the text of the wanted events.
 #![tactic(auto)]
 
-ghost use Rattle.std.specs.Prelude.{◌≤◌, ◌≡◌, length};
+ghost use Rattle.std.specs.Prelude.{◌≤◌, ◌≡◌, ◌+◌, length, IfOk};
 
 use filter_plan::{Filters, Verdict, Went};
 use filter_since::Since;
-use libc::{STDERR_FILENO, STDIN_FILENO, STDOUT_FILENO};
 use plan_wanted::Wanted;
+use std::env::FillError;
+use std::fs::File;
+use std::io;
+use std::io::{Read, Write};
+use std::rt::Env;
 
 // The most bytes of a file, and the room to read one in: one byte more tells that a file is longer.
 const MOST: usize = 1048576;
@@ -23,11 +27,17 @@ const ROOM: usize = 4096;
 // The most bytes of an argument: as many as a path has.
 const WORD: usize = 4095;
 
+// The room for what the system says of an error, which has at most 49 bytes, and the error's number behind it.
+const SAID: usize = 128;
+
+// The system's number for bytes that are no text.
+const NO_TEXT: i32 = 84;
+
 // How a file was read: so many bytes, or not.
 #[derive(Drop)]
 enum Got {
     Bytes(usize),
-    Failed,
+    Failed(io::Error),
     Long,
 }
 
@@ -46,24 +56,57 @@ fn room() -> [u8; EVENTS]
 }
 
 // A line on standard error that ends in a word of the command line.
-fn complain(what: &[u8], word: &[u8]) {
-    io::write_all(STDERR_FILENO, b"plan: ");
-    io::write_all(STDERR_FILENO, what);
-    io::write_all(STDERR_FILENO, word);
-    io::write_all(STDERR_FILENO, b"\n");
+fn complain(rt: &HostRuntime, what: &[u8], word: &[u8]) {
+    let err = rt.stderr();
+    let _ = err.write_all(b"plan: ");
+    let _ = err.write_all(what);
+    let _ = err.write_all(word);
+    let _ = err.write_all(b"\n");
 }
 
 // One that begins with it.
-fn complain_of(word: &[u8], what: &[u8]) {
-    io::write_all(STDERR_FILENO, b"plan: ");
-    io::write_all(STDERR_FILENO, word);
-    io::write_all(STDERR_FILENO, what);
+fn complain_of(rt: &HostRuntime, word: &[u8], what: &[u8]) {
+    let err = rt.stderr();
+    let _ = err.write_all(b"plan: ");
+    let _ = err.write_all(word);
+    let _ = err.write_all(what);
 }
 
-fn help() {
-    io::write_all(
-        STDERR_FILENO,
-        b"Usage: plan [--list] PLAN WANTED\n\
+// What std says of an error, and zeros behind it: the system's text, and in brackets the error's number.
+fn text_of(e: &io::Error) -> [u8; SAID] {
+    let mut text = [0u8; SAID];
+    let mut rest: &mut [u8] = &mut text;
+    let _ = write!(rest, "{e}");
+    text
+}
+
+// How many bytes the system's text has there.
+fn said(text: &[u8]) -> usize
+    ensures { result ≤ length text.now }
+{
+    let end = words::until(text, 0, 0);
+    let n = words::until(text, 0, b'(');
+    if (n < end) & (0 < n) {
+        return n - 1;
+    }
+    end
+}
+
+// One that tells of a file what the system says of an error.
+fn fail(rt: &HostRuntime, what: &[u8], word: &[u8], e: &io::Error) {
+    let text = text_of(e);
+    let n = said(&text);
+    let err = rt.stderr();
+    let _ = err.write_all(what);
+    let _ = err.write_all(word);
+    let _ = err.write_all(b": ");
+    let _ = err.write_all(&text[..n]);
+    let _ = err.write_all(b"\n");
+}
+
+fn help(rt: &impl Eprint) {
+    let _ = rt.eprint(
+        "Usage: plan [--list] PLAN WANTED\n\
 \n\
 Checks a filter plan before it goes to a controller: whether each of its requests\n\
 is a good 31 or 33, the controller's 64 filters are enough, and after the last\n\
@@ -85,15 +128,21 @@ Example: plan --list contractor.plan corridor.txt\n",
 }
 
 // So many bytes of a text, and whether they were written.
-fn write(out: &[u8], n: usize) -> bool {
+fn write(rt: &impl Print, out: &[u8], n: usize) -> bool {
     if out.len() < n {
         return false;
     }
-    io::write_all(STDOUT_FILENO, &out[..n])
+    rt.write_all(&out[..n]).is_ok()
 }
 
 // Puts the answer.
-fn answer(out: &mut [u8], verdict: Verdict, plan: &[u8], wanted: &[u8], filters: Filters) -> usize {
+fn answer(
+    out: &mut [u8],
+    verdict: Verdict,
+    plan: &[u8],
+    wanted: &[u8],
+    filters: &Filters,
+) -> usize {
     match verdict {
         Verdict::Yes => plan_told::yes(
             out,
@@ -122,7 +171,7 @@ fn answer(out: &mut [u8], verdict: Verdict, plan: &[u8], wanted: &[u8], filters:
 }
 
 // Prints the filters, a line for each.
-fn list_each(out: &mut [u8], filters: Filters) -> bool {
+fn list_each(rt: &impl Print, out: &mut [u8], filters: &Filters) -> bool {
     let mut i: usize = 0;
     while i < filter_plan::MOST {
         if filters.count <= i {
@@ -130,7 +179,7 @@ fn list_each(out: &mut [u8], filters: Filters) -> bool {
         }
         let f = filters.entries[i];
         let n = filter_text::filter_line(out, 0, f);
-        if !write(out, n) {
+        if !write(rt, out, n) {
             return false;
         }
         i += 1;
@@ -147,181 +196,189 @@ fn count(out: &mut [u8], went: Went, n: usize) -> usize {
 }
 
 // Prints that, and the filters.
-fn list(out: &mut [u8], went: Went, filters: Filters) -> bool {
+fn list(rt: &impl Print, out: &mut [u8], went: Went, filters: &Filters) -> bool {
     let n = count(out, went, filters.count);
-    if !write(out, n) {
+    if !write(rt, out, n) {
         return false;
     }
-    list_each(out, filters)
+    list_each(rt, out, filters)
 }
 
 // Prints the answer, and the filters where they are asked for.
-fn check(listed: bool, plan: &[u8], wanted: &[u8]) {
+fn check(rt: &HostRuntime, listed: bool, plan: &[u8], wanted: &[u8]) {
     let mut out = [0u8; ROOM];
     let verdict = filter_plan::check(plan, wanted);
     let left = filter_plan::leaves(plan);
     let went = left.went;
     let filters = left.filters;
-    let n = answer(&mut out, verdict, plan, wanted, filters);
-    let mut good = write(&out, n);
+    let n = answer(&mut out, verdict, plan, wanted, &filters);
+    let mut good = write(rt, &out, n);
     if listed & good {
-        good = list(&mut out, went, filters);
+        good = list(rt, &mut out, went, &filters);
     }
     if !good {
-        complain(b"writing standard output failed", b"");
+        complain(rt, b"writing standard output failed", b"");
     }
 }
 
 // Tells of a bad line of the wanted list.
-fn tell_line(path: &[u8], n: usize) {
+fn tell_line(rt: &HostRuntime, path: &[u8], n: usize) {
     let mut out = [0u8; ROOM];
     let e = plan_told::bad_line(&mut out, 0, n as u64);
     if e <= ROOM {
-        complain_of(path, &out[..e]);
+        complain_of(rt, path, &out[..e]);
     }
 }
 
 // The wanted list read, and then the check.
-fn wanted(listed: bool, plan: &[u8], path: &[u8], text: &[u8]) {
+fn wanted(rt: &HostRuntime, listed: bool, plan: &[u8], path: &[u8], text: &[u8]) {
     let mut events = room();
     let r = plan_wanted::read(text, &mut events);
     match r {
         Wanted::Bytes(n) => {
             if n <= EVENTS {
-                check(listed, plan, &events[..n]);
+                check(rt, listed, plan, &events[..n]);
             }
         }
-        Wanted::BadLine(n) => tell_line(path, n),
+        Wanted::BadLine(n) => tell_line(rt, path, n),
         // There is room for all that a text of this size can say.
-        Wanted::Full => complain_of(path, b": too many wanted events\n"),
+        Wanted::Full => complain_of(rt, path, b": too many wanted events\n"),
     }
 }
 
 // Reads once behind what was read.
-fn read_behind(fd: i32, buf: &mut [u8], n: usize) -> isize
+fn read_behind(input: &mut impl Read, buf: &mut [u8], n: usize) -> io::Result<usize>
     requires { n ≤ length buf.old }
+    ensures { IfOk result (λ k. n + k ≤ length buf.new) }
 {
-    libc::read(fd, &mut buf[n..])
+    input.read(&mut buf[n..])
 }
 
-// Reads a file to its end, or until there is no room. (The loop has to count down: nothing says that input ends.)
-fn read_all(fd: i32, buf: &mut [u8]) -> Got {
+// Reads a file to its end, or until there is no room. (The loop has to count: nothing says that input ends.)
+fn read_all(input: &mut impl Read, buf: &mut [u8]) -> Got {
     let mut n: usize = 0;
-    let mut reads = u64::MAX;
-    while 0 < reads {
+    for _ in 0..u64::MAX {
         if buf.len() <= n {
             return Got::Long;
         }
-        let got = read_behind(fd, buf, n);
-        if got < 0 {
-            return Got::Failed;
+        match read_behind(input, buf, n) {
+            Ok(0) => return Got::Bytes(n),
+            Ok(k) => n += k,
+            Err(e) => return Got::Failed(e),
         }
-        let k = io::count(got, &buf[n..]);
-        if k == 0 {
-            return Got::Bytes(n);
-        }
-        n += k;
-        reads -= 1;
     }
     Got::Long
 }
 
-// Opens a file, or takes standard input for it, and reads it; or says what failed.
-fn load(path: &[u8], buf: &mut [u8]) -> Got {
-    let mut fd = STDIN_FILENO;
-    let input = options::is_input(path);
-    if !input {
-        fd = os::open_read(path);
+// Opens a file. (std takes text alone for a file's name: of other bytes is told what the system says where it takes none.)
+fn open(rt: &HostRuntime, path: &[u8]) -> io::Result<File> {
+    match str::from_utf8(path) {
+        Ok(name) => File::open(rt, name),
+        Err(_) => Err(io::Error::from_raw_os_error(NO_TEXT)),
     }
-    if fd < 0 {
-        io::write_all(STDERR_FILENO, b"plan: ");
-        os::fail(path);
-        return Got::Failed;
-    }
-    let got = read_all(fd, buf);
+}
+
+// Tells why a file was not read.
+fn tell(rt: &HostRuntime, path: &[u8], got: &Got) {
     match got {
-        Got::Failed => {
-            io::write_all(STDERR_FILENO, b"plan: reading ");
-            os::fail(path);
-        }
-        Got::Long => complain_of(path, b": more than 1048576 bytes\n"),
+        Got::Failed(e) => fail(rt, b"plan: reading ", path, e),
+        Got::Long => complain_of(rt, path, b": more than 1048576 bytes\n"),
         Got::Bytes(_) => (),
     }
-    if !input {
-        libc::close(fd);
+}
+
+// Opens a file, or takes standard input for it, and reads it; or says what failed.
+fn load(rt: &HostRuntime, path: &[u8], buf: &mut [u8]) -> Got {
+    if options::is_input(path) {
+        let got = read_all(&mut rt.stdin(), buf);
+        tell(rt, path, &got);
+        return got;
     }
-    got
+    match open(rt, path) {
+        Ok(mut file) => {
+            let got = read_all(&mut file, buf);
+            tell(rt, path, &got);
+            got
+        }
+        Err(e) => {
+            fail(rt, b"plan: ", path, &e);
+            Got::Failed(e)
+        }
+    }
 }
 
 // The wanted list loaded.
-fn then(listed: bool, plan: &[u8], path: &[u8]) {
+fn then(rt: &HostRuntime, listed: bool, plan: &[u8], path: &[u8]) {
     let mut buf = space();
-    let got = load(path, &mut buf);
+    let got = load(rt, path, &mut buf);
     let Got::Bytes(n) = got else {
         return;
     };
     if n <= SPACE {
-        wanted(listed, plan, path, &buf[..n]);
+        wanted(rt, listed, plan, path, &buf[..n]);
     }
 }
 
 // The plan loaded, and then the wanted list.
-fn first(listed: bool, plan: &[u8], path: &[u8]) {
+fn first(rt: &HostRuntime, listed: bool, plan: &[u8], path: &[u8]) {
     let mut buf = space();
-    let got = load(plan, &mut buf);
+    let got = load(rt, plan, &mut buf);
     let Got::Bytes(n) = got else {
         return;
     };
     if n <= SPACE {
-        then(listed, &buf[..n], path);
+        then(rt, listed, &buf[..n], path);
     }
 }
 
+// Whether the command line has an argument of this number, where 0 is the program's own name.
+fn has_argument(rt: &impl Env, i: usize) -> bool {
+    !matches!(rt.arg(i, &mut []), Err(FillError::NotPresent))
+}
+
 // The arguments from a place on, which has to be the plan's.
-fn go(listed: bool, i: usize)
+fn go(rt: &HostRuntime, listed: bool, i: usize)
     requires { i ≤ 2 }
 {
-    if os::arg_count() != i + 2 {
+    if !has_argument(rt, i + 1) | has_argument(rt, i + 2) {
         complain(
+            rt,
             b"2 arguments are wanted behind the option, if there is one; plan --help names them",
             b"",
         );
         return;
     }
     let mut plan = [0u8; WORD];
-    let n = os::arg(i, &mut plan);
-    let long = os::errno() != 0;
     let mut list = [0u8; WORD];
-    let m = os::arg(i + 1, &mut list);
-    if long | (os::errno() != 0) {
-        complain(b"an argument is too long", b"");
+    let (Ok(n), Ok(m)) = (rt.arg(i, &mut plan), rt.arg(i + 1, &mut list)) else {
+        complain(rt, b"an argument is too long", b"");
         return;
-    }
+    };
     if options::is_input(&plan[..n]) & options::is_input(&list[..m]) {
-        complain(b"only one of the two files can be standard input", b"");
+        complain(rt, b"only one of the two files can be standard input", b"");
         return;
     }
-    first(listed, &plan[..n], &list[..m]);
+    first(rt, listed, &plan[..n], &list[..m]);
 }
 
-fn main() {
-    if os::arg_count() < 2 {
-        help();
+fn main(rt: HostRuntime) {
+    if !has_argument(&rt, 1) {
+        help(&rt);
         return;
     }
     let mut word = [0u8; WORD];
-    let n = os::arg(1, &mut word);
+    let n = rt.arg(1, &mut word).unwrap_or(0);
     if options::same(&word[..n], b"--help") {
-        help();
+        help(&rt);
         return;
     }
     if options::same(&word[..n], b"--list") {
-        go(true, 2);
+        go(&rt, true, 2);
         return;
     }
     if options::is_option(&word[..n]) {
-        complain(b"no such option: ", &word[..n]);
+        complain(&rt, b"no such option: ", &word[..n]);
         return;
     }
-    go(false, 1);
+    go(&rt, false, 1);
 }

@@ -5,8 +5,10 @@
 
 ghost use Rattle.quiet.specs.Room.{Roomy, RoomBehind, SaysWithin};
 
-use libc::{STDERR_FILENO, STDIN_FILENO, STDOUT_FILENO};
 use quiet_turns::Act;
+use std::env::FillError;
+use std::io::Read;
+use std::rt::Env;
 
 // The most bytes with which a request line's rule waits: 12, one less than its longest frame has.
 const HELD: usize = line::REQUEST_LONGEST - 1;
@@ -16,10 +18,9 @@ const PART: usize = 65536;
 
 const LINE: usize = 104;
 
-fn help() {
-    io::write_all(
-        STDERR_FILENO,
-        b"Usage: quiet < RUN\n\
+fn help(rt: &impl Eprint) {
+    let _ = rt.eprint(
+        "Usage: quiet < RUN\n\
 \n\
 Says whether a run of bytes may go out where we are allowed to ask and never to\n\
 switch: yes exactly if it is nothing but requests inside the quiet profile. Else\n\
@@ -38,53 +39,59 @@ no: item 0 at byte 0, 0400A105000003A3: command A1 is outside the profile\n",
 }
 
 // Reads once behind the bytes that are held, where there is always room.
-fn read_behind(buf: &mut [u8], held: usize) -> isize
+fn read_behind(input: &mut impl Read, buf: &mut [u8], held: usize) -> isize
     requires { RoomBehind buf.old held }
 {
-    libc::read(STDIN_FILENO, &mut buf[held..])
+    match input.read(&mut buf[held..]) {
+        Ok(n) => n as isize,
+        Err(_) => -1,
+    }
 }
 
 // The end: the answer, or that there is none.
-fn finish(act: Act, out: &[u8])
+fn finish(rt: &(impl Print + Eprint), act: Act, out: &[u8])
     requires { SaysWithin act out.now }
 {
     match act {
         Act::Says(n) => {
-            if !io::write_all(STDOUT_FILENO, &out[..n]) {
-                io::write_all(STDERR_FILENO, b"quiet: writing standard output failed\n");
+            if rt.write_all(&out[..n]).is_err() {
+                let _ = rt.eprint("quiet: writing standard output failed\n");
             }
         }
         Act::Failed => {
-            io::write_all(STDERR_FILENO, b"quiet: reading standard input failed\n");
+            let _ = rt.eprint("quiet: reading standard input failed\n");
         }
         Act::Read(_) => {}
     }
 }
 
-// Read by read. (The loop has to count down: nothing says that input ends.)
-fn run(buf: &mut [u8], out: &mut [u8])
+// Read by read. (The loop has to count: nothing says that input ends.)
+fn run(rt: &(impl Print + Eprint), input: &mut impl Read, buf: &mut [u8], out: &mut [u8])
     requires { Roomy buf.old out.old }
 {
     let mut watch = quiet_turns::fresh();
-    let mut reads = u64::MAX;
-    while 0 < reads {
-        let got = read_behind(buf, watch.held);
+    for _ in 0..u64::MAX {
+        let got = read_behind(input, buf, watch.held);
         let act = quiet_turns::turn(watch, got, buf, out);
         let Act::Read(on) = act else {
-            finish(act, out);
+            finish(rt, act, out);
             return;
         };
         watch = on;
-        reads -= 1;
     }
 }
 
-fn main() {
-    if 1 < os::arg_count() {
-        help();
+// Whether the command line has an argument of this number, where 0 is the program's own name.
+fn has_argument(rt: &impl Env, i: usize) -> bool {
+    !matches!(rt.arg(i, &mut []), Err(FillError::NotPresent))
+}
+
+fn main(rt: HostRuntime) {
+    if has_argument(&rt, 1) {
+        help(&rt);
         return;
     }
     let mut buf = [0u8; HELD + PART];
     let mut out = [0u8; LINE];
-    run(&mut buf, &mut out);
+    run(&rt, &mut rt.stdin(), &mut buf, &mut out);
 }

@@ -6,8 +6,8 @@
 ghost use Rattle.std.specs.Prelude.{◌≤◌, length};
 ghost use Rattle.reply_line.specs.Room.{RoomBehind, Roomy};
 
-use libc::{STDERR_FILENO, STDIN_FILENO, STDOUT_FILENO};
 use line::Line;
+use std::io::Read;
 use turns::{Act, After, Turn};
 
 // The most bytes with which a reply line's rule waits: 67, one less than its longest frame has.
@@ -24,74 +24,75 @@ enum Then {
 }
 
 // Reads once behind the bytes that are held, where there is always room.
-fn read_behind(buf: &mut [u8], held: usize) -> isize
+fn read_behind(input: &mut impl Read, buf: &mut [u8], held: usize) -> isize
     requires { RoomBehind buf.old held }
 {
-    libc::read(STDIN_FILENO, &mut buf[held..])
+    match input.read(&mut buf[held..]) {
+        Ok(n) => n as isize,
+        Err(_) => -1,
+    }
 }
 
 // A turn that writes: so many bytes of the text, whole.
-fn write(turn: Turn, out: &[u8], n: usize) -> Then
+fn write(rt: &(impl Print + Eprint), turn: Turn, out: &[u8], n: usize) -> Then
     requires { n ≤ length out.now }
 {
-    if io::write_all(STDOUT_FILENO, &out[..n]) {
+    if rt.write_all(&out[..n]).is_ok() {
         return Then::Go(turn);
     }
-    io::write_all(
-        STDERR_FILENO,
-        b"reply_line: writing standard output failed\n",
-    );
+    let _ = rt.eprint("reply_line: writing standard output failed\n");
     Then::Stop
 }
 
 // A turn that reads.
-fn read(turn: Turn, buf: &mut [u8]) -> Then
+fn read(rt: &impl Eprint, input: &mut impl Read, turn: Turn, buf: &mut [u8]) -> Then
     requires { RoomBehind buf.old turn.end }
 {
-    let got = read_behind(buf, turn.end);
+    let got = read_behind(input, buf, turn.end);
     let after = turns::read(turn, got, buf.len());
     match after {
         After::Goes(on) => Then::Go(on),
         After::Failed => {
-            io::write_all(
-                STDERR_FILENO,
-                b"reply_line: reading standard input failed\n",
-            );
+            let _ = rt.eprint("reply_line: reading standard input failed\n");
             Then::Stop
         }
     }
 }
 
 // One turn, as it is to be.
-fn go_on(turn: Turn, buf: &mut [u8], out: &mut [u8]) -> Then
+fn go_on(
+    rt: &(impl Print + Eprint),
+    input: &mut impl Read,
+    turn: Turn,
+    buf: &mut [u8],
+    out: &mut [u8],
+) -> Then
     requires { Roomy buf.old out.old }
 {
     let act = turns::next(Line::Reply, turn, buf, out);
     match act {
-        Act::Write(n, on) => write(on, out, n),
-        Act::Read(on) => read(on, buf),
+        Act::Write(n, on) => write(rt, on, out, n),
+        Act::Read(on) => read(rt, input, on, buf),
         Act::Done => Then::Stop,
     }
 }
 
-// Turn by turn. (The loop has to count down: nothing says that input ends.)
-fn run(buf: &mut [u8], out: &mut [u8])
+// Turn by turn. (The loop has to count: nothing says that input ends.)
+fn run(rt: &(impl Print + Eprint), input: &mut impl Read, buf: &mut [u8], out: &mut [u8])
     requires { Roomy buf.old out.old }
 {
     let mut turn = turns::fresh();
-    let mut turns = u64::MAX;
-    while 0 < turns {
-        let then = go_on(turn, buf, out);
+    for _ in 0..u64::MAX {
+        let then = go_on(rt, input, turn, buf, out);
         let Then::Go(on) = then else {
             return;
         };
         turn = on;
-        turns -= 1;
     }
 }
 
-fn main() {
+fn main(rt: HostRuntime) {
     let mut buf = [0u8; HELD + PART];
     let mut out = [0u8; PART];
-    run(&mut buf, &mut out);
+    run(&rt, &mut rt.stdin(), &mut buf, &mut out);
 }
