@@ -10,7 +10,7 @@ import os
 import sys
 
 import opinion
-from sheet import Wrong, number_of, word_of
+from sheet import Wrong, number_of, opened, word_of
 
 HELP = b"""\
 plan [--list] PLAN WANTED
@@ -61,7 +61,7 @@ def front_of(number):
 def bytes_in(name, standard_input):
     """The bytes of a file, or of standard input, which is asked for them. "Each has at most 1,048,576 bytes." """
     try:
-        number = None if name == STANDARD_INPUT else os.open(name, os.O_RDONLY)
+        number = None if name == STANDARD_INPUT else opened(name)
     except OSError as error:
         raise Wrong(name, ": ", word_of(error))
     try:

@@ -6,6 +6,7 @@ Captures and seasons are opinion.py's; arguments, dates, lines and drawings are 
 """
 
 import datetime
+import errno
 import functools
 import os
 import re
@@ -126,6 +127,15 @@ def word_of(error):
     return os.strerror(error.errno)
 
 
+def opened(name):
+    """A file, opened. Its name has to be text in UTF-8: of other bytes the system's word is that they are no such text."""
+    try:
+        name.decode("utf-8")
+    except UnicodeDecodeError:
+        raise OSError(errno.EILSEQ, "")
+    return os.open(name, os.O_RDONLY)
+
+
 def all_of(number):
     """All bytes of an open file."""
     parts = []
@@ -139,7 +149,7 @@ def all_of(number):
 def bytes_in(name, standard_input):
     """All bytes of a file, or of standard input, which is asked for them."""
     try:
-        number = None if name == b"-" else os.open(name, os.O_RDONLY)
+        number = None if name == b"-" else opened(name)
     except OSError as error:
         raise Wrong(name, ": ", word_of(error))
     try:

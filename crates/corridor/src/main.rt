@@ -1,6 +1,6 @@
 // Prints the sheet of one corridor through four seasons, of a capture in a file or on standard input: docs/SHEET.md. It reads its arguments,
 // opens the file, reads it part by part, goes by the answers of by_parts::turn, and prints what crates sheet, sheet_text, sheet_svg and
-// sheet_told put: what any program reports that goes so is `run-reports` of by_parts' specs/Run. Its memory does not grow with the capture.
+// sheet_told put: what any program reports that goes so is `run_reports` of by_parts' specs/Run. Its memory does not grow with the capture.
 #![tactic(auto)]
 
 ghost use Rattle.std.specs.Prelude.{◌≤◌, length};

@@ -163,7 +163,7 @@ fn answer(
                     let s = filter_since::request_at(plan, k);
                     plan_told::hidden(out, 0, j as u64, e.address, e.instance, e.kind, k as u64, s)
                 }
-                // An event that is hidden after good requests is so since one of them (`since-hidden` of filter_answers).
+                // An event that is hidden after good requests is so since one of them (`since_hidden` of filter_answers).
                 Since::Never => 0,
             }
         }

@@ -1,5 +1,5 @@
 // Says whether a run of requests on standard input is quiet: document 02, W-203. It only reads, writes and goes by the answers of crate
-// quiet_turns: what any program says that goes by them is `says-answer` of its specs/Run. A read or a write that fails ends it, and standard
+// quiet_turns: what any program says that goes by them is `says_answer` of its specs/Run. A read or a write that fails ends it, and standard
 // error says so. Its memory does not grow with the run.
 #![tactic(auto)]
 
