@@ -11,7 +11,7 @@ use free_number::VACANT;
 pub use free_number::{Book, Given};
 
 // A book with the tick at which each request was asked. Where nothing is held under a number, its tick says nothing.
-#[derive(Drop)]
+#[derive(Clone, Copy)]
 pub struct Timed {
     pub book: Book,
     pub ticks: [u32; 256],

@@ -39,7 +39,7 @@ pub enum Stage {
 
 // A report between two parts: whose it is, what is known of the capture, the good records passed, and what is held of the next. It goes
 // by value. Where a record is bad or cut short, the records and the bytes passed tell which and where: the version byte stands in front.
-#[derive(Drop)]
+#[derive(Clone, Copy)]
 pub struct SoFar {
     pub who: Corridor,
     pub bounds: Boundaries,

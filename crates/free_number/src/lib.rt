@@ -5,7 +5,7 @@
 ghost use Rattle.std.specs.Prelude.{◌≡◌};
 ghost use Rattle.free_number.specs.Number.{book, first_free, number_for, said_given};
 
-#[derive(Drop)]
+#[derive(Clone, Copy)]
 pub struct Book {
     // The command asked under each sequence number. A number that is no known command counts as nothing held.
     pub asked: [u8; 256],

@@ -15,7 +15,7 @@ use summary::Seconds;
 use tally::Tally;
 
 // What good records left: how many they are and how many bytes they have, the seconds of the last, and the tally. It goes by value.
-#[derive(Drop)]
+#[derive(Clone, Copy)]
 pub struct Passed {
     pub records: u64,
     pub bytes: u64,
