@@ -13,7 +13,6 @@ import sys
 import tempfile
 
 HERE = os.path.dirname(os.path.realpath(__file__))
-PORT = "/opt/rattle/port/port.py"
 
 
 def main():
@@ -31,7 +30,8 @@ def main():
             f.write("refusal:\ntargetx: refusal\n")
         for words in (["init", "-q", "."], ["add", "-A"], ["-c", "user.email=a@b", "-c", "user.name=a", "commit", "-qm", "a"]):
             subprocess.run(["git", *words], cwd=work, check=True)
-        subprocess.run([sys.executable, PORT], cwd=work, check=True, stdout=subprocess.DEVNULL)
+        kit = os.path.dirname(subprocess.run(["rt", "doc"], check=True, capture_output=True, text=True).stdout.strip())
+        subprocess.run([sys.executable, os.path.join(kit, "port", "port.py")], cwd=work, check=True, stdout=subprocess.DEVNULL)
         files = [p for p in glob.glob(f"{work}/crates/**/*", recursive=True) if os.path.isfile(p)]
         change(files, r"\btargetx\b", "target")
         specs = glob.glob(f"{work}/crates/targetx/specs/*.antt")
