@@ -3,7 +3,7 @@
 use Rattle.std.specs.Prelude.{ℕ, suc, ◌≤◌, ◌≡◌, refl, Bool, true, false, List, length, leb, eqb}
 use Rattle.std.proofs.Common.{sym, ap, ◌∙◌, leb-true, eqb-true, le-leb, eq-eqb, arith}
 use Rattle.refusal.specs.Test.{pick, clash}
-use Rattle.refusal.specs.Answer.{Answer, refused, full, demand}
+use Rattle.refusal.specs.Answer.{Answer, full, demand}
 use Rattle.lead.specs.Lead.{is_request, is_reply, reply_least}
 use Rattle.sum.specs.Sum.{sum_of}
 use Rattle.frame.specs.Frame.{byte}
@@ -22,7 +22,7 @@ use Rattle.extent.specs.declared.Extent.TheVariants.{Wait, Bad, Frame}
 use Rattle.extent.specs.Line.{reply_length, length_extent, extent_of, in_table}
 use Rattle.line.specs.Cases.{Leads}
 use Rattle.line.specs.Extents.{frame_least}
-use Rattle.agreement.specs.Verdict.{Verdict, accepted, refused_with, verdict, datagram, frame_verdict, is_framed}
+use Rattle.agreement.specs.Verdict.{accepted, refused_with, verdict, datagram, frame_verdict, is_framed}
 
 demands : {A : Type 0} (t u : Bool) (v : A) → verdict (demand t 6 (demand u 7 (full v))) ≡ frame_verdict t u
 demands true true v = refl

@@ -4,5 +4,3 @@ pub mod Asked
 pub mod Claims
 -- what only serves proofs
 pub mod Turns
-pub mod Macs
-pub mod Bounds

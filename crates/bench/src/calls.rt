@@ -1,24 +1,24 @@
 // The calls of the bench, each an arm by its number in the table of crate bench_calls: its bytes are handed to the codec, and
 // its answer is said by the crate of its family. docs/BENCH.md, in its order.
 use bench_book::Page;
-use bench_calls::{Call, Called};
+use bench_calls::Call;
 use bench_capture::{Carried, Moved, Tail};
 use bench_datagrams::Read;
 use bench_lines::Shown;
 use bench_maps::Data;
 use bench_parts::{Fit, Part};
 use bench_requests::Asked;
-use book::{Book, Timed};
+use book::Timed;
 use by_parts::SoFar;
 use colour::Colour;
 use command::Shape;
 use event::{Layout, Mac};
 use event_type::EventType;
-use frame::Wrote;
 use line::Line;
 use meaning::Arguments;
 use profile::Profile;
 use reader::Held;
+use refusal::Refusal;
 use request::Ipv4;
 use target::{Device, Group, LineTarget};
 
@@ -35,34 +35,6 @@ pub struct State {
     so_far: SoFar,
 }
 
-// The state after a line, and the place behind the answer.
-#[derive(Drop)]
-pub struct Turn {
-    pub state: State,
-    pub at: usize,
-}
-
-#[derive(Drop)]
-struct BookTurn {
-    book: Timed,
-    page: Page,
-}
-
-#[derive(Drop)]
-struct LineTurn {
-    held: Held,
-    shown: Shown,
-}
-
-// The state after a call, and what a call of the book or of a line answers, with the reader that it leaves.
-#[derive(Drop)]
-struct After {
-    state: State,
-    page: Page,
-    held: Held,
-    shown: Shown,
-}
-
 pub fn fresh() -> State {
     State {
         book: book::fresh(),
@@ -73,13 +45,14 @@ pub fn fresh() -> State {
     }
 }
 
-// An answer that leaves the state.
-pub fn said(state: State, at: usize) -> Turn {
-    Turn { state, at }
-}
-
 // Writes an event: its target and its type stand behind the MAC address.
-fn write_event(layout: Layout, mac: Mac, head: &[u8], data: &[u8], buffer: &mut [u8]) -> Wrote {
+fn write_event(
+    layout: Layout,
+    mac: Mac,
+    head: &[u8],
+    data: &[u8],
+    buffer: &mut [u8],
+) -> Result<usize, Refusal> {
     let target = bench_words::wide32(bench_words::part(head, 6, 10));
     let kind = bench_words::byte_at(head, 10);
     writers::event(layout, mac, target, kind, data, buffer)
@@ -94,7 +67,7 @@ fn profile_of(n: usize) -> Profile {
 }
 
 // Writes a colour request: sequence, target and level, and behind them the channels of its colour.
-fn write_colour(n: usize, head: &[u8], buffer: &mut [u8]) -> Wrote {
+fn write_colour(n: usize, head: &[u8], buffer: &mut [u8]) -> Result<usize, Refusal> {
     let first = bench_words::wide16(bench_words::part(head, 3, 5));
     let colour = match n {
         0x77 | 0x7C => Colour::Xy {
@@ -123,7 +96,7 @@ fn write_colour(n: usize, head: &[u8], buffer: &mut [u8]) -> Wrote {
 }
 
 // What writes into a lent buffer: head is the first group of the call (the datagram of a relay), data its second where it has three.
-fn write(n: usize, head: &[u8], data: &[u8], buffer: &mut [u8]) -> Wrote {
+fn write(n: usize, head: &[u8], data: &[u8], buffer: &mut [u8]) -> Result<usize, Refusal> {
     let a = bench_words::byte_at(head, 0);
     let b = bench_words::byte_at(head, 1);
     let c = bench_words::byte_at(head, 2);
@@ -162,13 +135,12 @@ fn write(n: usize, head: &[u8], data: &[u8], buffer: &mut [u8]) -> Wrote {
 // A writing call: the buffer, which is shown before and after, is the last group.
 fn wrote(n: usize, head: &[u8], data: &[u8], before: &[u8], out: &mut [u8], at: usize) -> usize {
     let mut space = [0u8; SPACE];
-    let buffer: &mut [u8] = &mut space;
-    let e = lent::word(buffer, 0, before);
-    if buffer.len() < e {
+    let e = lent::word(&mut space, 0, before);
+    if space.len() < e {
         return at;
     }
-    let w = write(n, head, data, &mut buffer[..e]);
-    bench_datagrams::wrote(out, at, w, before, bench_words::part(buffer, 0, e))
+    let w = write(n, head, data, &mut space[..e]);
+    bench_datagrams::wrote(out, at, w, before, bench_words::part(&space, 0, e))
 }
 
 // The calls that leave the state, family by family: what each answers.
@@ -187,7 +159,7 @@ fn read(n: usize, s: &[u8]) -> Read {
         0x90 => Read::Reply(reply::read(s)),
         0x91 => Read::Code(reply::error_code(s)),
         0x92 => Read::Event(event::read(Layout::Three, s)),
-        0x93 => Read::Kind(EventType::of(b)),
+        0x93 => Read::Kind(EventType::from(b)),
         _ => Read::Event(event::read(Layout::Two, s)),
     }
 }
@@ -277,175 +249,64 @@ fn plain(n: usize, s: &[u8], t: &[u8], u: &[u8], out: &mut [u8], at: usize) -> u
     }
 }
 
-// A call that the book is lent to: it asks, replies or gives up.
-fn lent_to(n: usize, b: Timed, s: &[u8]) -> BookTurn {
-    let before = b.book;
-    let mut asked = before.asked;
-    let mut last = before.last;
-    let mut ticks = b.ticks;
+// A call of the book.
+fn page(n: usize, b: &mut Timed, s: &[u8], t: &[u8], u: &[u8]) -> Page {
     let first = bench_words::byte_at(s, 0);
-    let page = match n {
+    match n {
+        0x40 => {
+            *b = book::fresh();
+            Page::Done
+        }
+        0x41 => {
+            *b = bench_book::handed(first, t, u);
+            Page::Done
+        }
         0x42 => {
             let tick = bench_words::wide32(bench_words::part(s, 1, 5));
-            Page::Number(book::ask(&mut asked, &mut last, &mut ticks, first, tick))
+            Page::Number(book::ask(
+                &mut b.book.asked,
+                &mut b.book.last,
+                &mut b.ticks,
+                first,
+                tick,
+            ))
         }
-        0x43 => Page::Command(book::reply(&mut asked, first)),
+        0x43 => Page::Command(book::reply(&mut b.book.asked, first)),
+        0x44 => Page::Book,
         _ => {
             let limit = bench_words::wide32(bench_words::part(s, 4, 8));
-            Page::GivenUp(book::give_up(&mut asked, &ticks, bench_words::wide32(s), limit))
+            Page::GivenUp(book::give_up(&mut b.book.asked, &b.ticks, bench_words::wide32(s), limit))
         }
-    };
-    BookTurn {
-        book: Timed {
-            book: Book { asked, last },
-            ticks,
-        },
-        page,
-    }
-}
-
-fn page(n: usize, b: Timed, s: &[u8], t: &[u8], u: &[u8]) -> BookTurn {
-    match n {
-        0x40 => BookTurn {
-            book: book::fresh(),
-            page: Page::Done,
-        },
-        0x41 => BookTurn {
-            book: bench_book::handed(bench_words::byte_at(s, 0), t, u),
-            page: Page::Done,
-        },
-        0x44 => BookTurn {
-            book: b,
-            page: Page::Book,
-        },
-        _ => lent_to(n, b, s),
     }
 }
 
 // A call of a line, by the second digit of its number.
-fn line(n: usize, l: Line, h: Held, s: &[u8], t: &[u8]) -> LineTurn {
+fn line(n: usize, l: Line, h: &mut Held, s: &[u8], t: &[u8]) -> Shown {
     match n {
-        0 => LineTurn {
-            held: reader::fresh(),
-            shown: bench_lines::done(),
-        },
-        1 => LineTurn {
-            held: bench_lines::handed(bench_words::wide64(s) as usize, t),
-            shown: bench_lines::done(),
-        },
+        0 => {
+            *h = reader::fresh();
+            bench_lines::done()
+        }
+        1 => {
+            *h = bench_lines::handed(bench_words::wide64(s) as usize, t);
+            bench_lines::done()
+        }
         2 => {
-            let f = reader::feed(l, h, s);
-            let held = f.held;
-            LineTurn {
-                held,
-                shown: bench_lines::fed(f),
-            }
+            let f = reader::feed(l, *h, s);
+            *h = f.held;
+            bench_lines::fed(f)
         }
         3 => {
-            let f = reader::close(l, h);
-            let held = f.held;
-            LineTurn {
-                held,
-                shown: bench_lines::closed(f),
-            }
+            let f = reader::close(l, *h);
+            *h = f.held;
+            bench_lines::closed(f)
         }
-        4 => LineTurn {
-            held: h,
-            shown: bench_lines::show(h),
-        },
-        5 => LineTurn {
-            held: h,
-            shown: bench_lines::step(line::settled(l, s)),
-        },
+        4 => bench_lines::show(*h),
+        5 => bench_lines::step(line::settled(l, s)),
         _ => {
             let closed = bench_words::byte_at(s, 0) != 0;
-            LineTurn {
-                held: h,
-                shown: bench_lines::item(line::item_at(l, closed, t)),
-            }
+            bench_lines::item(line::item_at(l, closed, t))
         }
-    }
-}
-
-// What a call makes of the state, by its family, the first digit of its number.
-fn moved(n: usize, state: State, s: &[u8], t: &[u8], u: &[u8]) -> After {
-    let b = state.book;
-    let q = state.request;
-    let r = state.reply;
-    let capture = state.capture;
-    let so_far = state.so_far;
-    match n / 16 {
-        4 => {
-            let p = page(n, b, s, t, u);
-            let book = p.book;
-            let answer = p.page;
-            After {
-                state: State {
-                    book,
-                    request: q,
-                    reply: r,
-                    capture,
-                    so_far,
-                },
-                page: answer,
-                held: q,
-                shown: bench_lines::done(),
-            }
-        }
-        5 => {
-            let p = line(n % 16, Line::Request, q, s, t);
-            let request = p.held;
-            let shown = p.shown;
-            After {
-                state: State {
-                    book: b,
-                    request,
-                    reply: r,
-                    capture,
-                    so_far,
-                },
-                page: Page::Done,
-                held: request,
-                shown,
-            }
-        }
-        6 => {
-            let p = line(n % 16, Line::Reply, r, s, t);
-            let reply = p.held;
-            let shown = p.shown;
-            After {
-                state: State {
-                    book: b,
-                    request: q,
-                    reply,
-                    capture,
-                    so_far,
-                },
-                page: Page::Done,
-                held: reply,
-                shown,
-            }
-        }
-        _ => After {
-            state,
-            page: Page::Done,
-            held: q,
-            shown: bench_lines::done(),
-        },
-    }
-}
-
-// The answer of a call, by its family.
-fn answered(n: usize, a: After, s: &[u8], t: &[u8], u: &[u8], out: &mut [u8], at: usize) -> usize {
-    let state = a.state;
-    let page = a.page;
-    let held = a.held;
-    let shown = a.shown;
-    let book = state.book;
-    match n / 16 {
-        4 => bench_book::say(out, at, page, book),
-        5 | 6 => bench_lines::say(out, at, shown, held),
-        _ => plain(n, s, t, u, out, at),
     }
 }
 
@@ -468,46 +329,33 @@ fn looked(n: usize, c: Carried, s: &[u8], buffer: &[u8]) -> Moved {
 
 // A call of the capture but for the one that hands it in, over the bytes of its buffer.
 fn capture(n: usize, c: Carried, s: &[u8], t: &[u8], buffer: &mut [u8]) -> Moved {
-    let summary = c.summary;
     let seconds = bench_words::wide32(s);
     match n {
         0xC3 => {
             let f = append::empty(buffer, bench_words::byte_at(s, 0));
             bench_capture::found(c, f, Tail::Nothing)
         }
-        0xC4 => {
-            let a = append::append(buffer, c.used, summary, seconds, t);
-            bench_capture::appended(c, a)
-        }
+        0xC4 => bench_capture::appended(c, append::append(buffer, c.used, c.summary, seconds, t)),
         0xC5 => {
-            let mark = c.mark;
-            let f = append::append_at(buffer, mark, summary, seconds, t);
+            let f = append::append_at(buffer, c.mark, c.summary, seconds, t);
             bench_capture::found(c, f, Tail::Nothing)
         }
-        0xCB => {
-            let r = morning::run(buffer, c.used, summary, seconds, t);
-            bench_capture::ran(c, r)
-        }
-        0xCC => {
-            let mark = c.mark;
-            let r = morning::run_at(buffer, mark, summary, seconds, t);
-            bench_capture::ran_at(c, r)
-        }
+        0xCB => bench_capture::ran(c, morning::run(buffer, c.used, c.summary, seconds, t)),
+        0xCC => bench_capture::ran_at(c, morning::run_at(buffer, c.mark, c.summary, seconds, t)),
         _ => looked(n, c, s, buffer),
     }
 }
 
 // A call of the capture, whose buffer is so many bytes at the front of those that are lent: no line can hand in more.
 fn captured(n: usize, c: Carried, s: &[u8], t: &[u8], store: &mut [u8]) -> Moved {
-    let size = c.size;
     if n == 0xC0 {
         let e = lent::word(store, 0, t);
         return bench_capture::capture_set(c, e, bench_words::wide64(s) as usize);
     }
-    if store.len() < size {
+    if store.len() < c.size {
         return bench_capture::shown(c);
     }
-    capture(n, c, s, t, &mut store[..size])
+    capture(n, c, s, t, &mut store[..c.size])
 }
 
 // The bytes that a call of the capture shows: the datagram of a record, or the buffer.
@@ -522,34 +370,17 @@ fn part_of(n: usize, c: Carried, place: usize, store: &[u8]) -> &[u8] {
 // A call of the capture, and its answer.
 fn stored(
     n: usize,
-    state: State,
+    c: &mut Carried,
     s: &[u8],
     t: &[u8],
     store: &mut [u8],
     out: &mut [u8],
     at: usize,
-) -> Turn {
-    let book = state.book;
-    let request = state.request;
-    let reply = state.reply;
-    let before = state.capture;
-    let so_far = state.so_far;
-    let m = captured(n, before, s, t, store);
-    let c = m.carried;
-    let head = m.head;
-    let tail = m.tail;
-    let summary = m.summary;
-    let shown = part_of(n, c, bench_words::wide64(s) as usize, store);
-    Turn {
-        state: State {
-            book,
-            request,
-            reply,
-            capture: c,
-            so_far,
-        },
-        at: bench_capture::say(out, at, head, tail, summary, shown),
-    }
+) -> usize {
+    let m = captured(n, *c, s, t, store);
+    *c = m.carried;
+    let shown = part_of(n, m.carried, bench_words::wide64(s) as usize, store);
+    bench_capture::say(out, at, m.head, m.tail, m.summary, shown)
 }
 
 // The report of seasons over the capture, which stays as it is.
@@ -560,56 +391,52 @@ fn seasons(c: Carried, s: &[u8], store: &[u8], out: &mut [u8], at: usize) -> usi
     bench_seasons::say(out, at, r)
 }
 
-// A call of the report of seasons: over the capture, or of one that comes in parts, which is carried.
-fn reported(n: usize, state: State, s: &[u8], store: &[u8], out: &mut [u8], at: usize) -> Turn {
-    let book = state.book;
-    let request = state.request;
-    let reply = state.reply;
-    let capture = state.capture;
-    if n == 0xD0 {
-        return said(state, seasons(capture, s, store, out, at));
+impl State {
+    // A call, by its family, the first digit of its number: what it makes of the state, and its answer.
+    fn call(
+        &mut self,
+        c: Call,
+        bytes: &[u8],
+        store: &mut [u8],
+        out: &mut [u8],
+        at: usize,
+    ) -> usize {
+        let n = c.number;
+        let g = c.groups;
+        let s = bench_words::part(bytes, 0, g.a);
+        let t = bench_words::part(bytes, g.a, g.b);
+        let u = bench_words::part(bytes, g.b, g.c);
+        match n / 16 {
+            4 => {
+                let page = page(n, &mut self.book, s, t, u);
+                bench_book::say(out, at, page, self.book)
+            }
+            5 => {
+                let shown = line(n % 16, Line::Request, &mut self.request, s, t);
+                bench_lines::say(out, at, shown, self.request)
+            }
+            6 => {
+                let shown = line(n % 16, Line::Reply, &mut self.reply, s, t);
+                bench_lines::say(out, at, shown, self.reply)
+            }
+            12 => stored(n, &mut self.capture, s, t, store, out, at),
+            13 => {
+                if n == 0xD0 {
+                    return seasons(self.capture, s, store, out, at);
+                }
+                self.so_far = bench_seasons::moved(n, self.so_far, s);
+                bench_seasons::tell(out, at, n, self.so_far)
+            }
+            _ => plain(n, s, t, u, out, at),
+        }
     }
-    let before = state.so_far;
-    let so_far = bench_seasons::moved(n, before, s);
-    Turn {
-        state: State {
-            book,
-            request,
-            reply,
-            capture,
-            so_far,
-        },
-        at: bench_seasons::tell(out, at, n, so_far),
-    }
-}
 
-fn made(c: Call, state: State, bytes: &[u8], store: &mut [u8], out: &mut [u8], at: usize) -> Turn {
-    let n = c.number;
-    let g = c.groups;
-    let s = bench_words::part(bytes, 0, g.a);
-    let t = bench_words::part(bytes, g.a, g.b);
-    let u = bench_words::part(bytes, g.b, g.c);
-    if n / 16 == 12 {
-        return stored(n, state, s, t, store, out, at);
+    // The answer to a line with a word in it, and the place behind it.
+    pub fn answer(&mut self, line: &[u8], store: &mut [u8], out: &mut [u8], at: usize) -> usize {
+        let mut space = [0u8; SPACE];
+        match bench_calls::read(line, &mut space) {
+            Err(fault) => bench_calls::refused(out, at, fault),
+            Ok(call) => self.call(call, &space, store, out, at),
+        }
     }
-    if n / 16 == 13 {
-        return reported(n, state, s, store, out, at);
-    }
-    let a = moved(n, state, s, t, u);
-    let next = a.state;
-    Turn {
-        state: next,
-        at: answered(n, a, s, t, u, out, at),
-    }
-}
-
-// The answer to a line with a word in it.
-pub fn answer(state: State, line: &[u8], store: &mut [u8], out: &mut [u8], at: usize) -> Turn {
-    let mut space = [0u8; SPACE];
-    let bytes: &mut [u8] = &mut space;
-    let c = bench_calls::read(line, bytes);
-    let Called::Call(call) = c else {
-        return said(state, bench_calls::refused(out, at, c));
-    };
-    made(call, state, bytes, store, out, at)
 }

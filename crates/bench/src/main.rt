@@ -7,7 +7,7 @@
 
 mod calls;
 
-use calls::{State, Turn};
+use calls::State;
 use std::io::Read;
 
 // A line has at most so many bytes.
@@ -40,14 +40,6 @@ struct Run {
     to: usize,
     text: Text,
     at: usize,
-    over: bool,
-}
-
-// What a turn leaves.
-#[derive(Drop)]
-struct Next {
-    run: Run,
-    state: State,
     over: bool,
 }
 
@@ -95,18 +87,13 @@ fn grown(t: Text, s: &[u8], ended: bool, line: &mut [u8]) -> Text {
 
 // The bytes up to the line's end, or all that are left, go to the line.
 fn cut(r: Run, input: &[u8], line: &mut [u8]) -> Run {
-    let from = r.from;
     let to = r.to;
-    let before = r.text;
-    let e = words::until(bench_words::part(input, 0, to), from, b'\n');
-    let text = grown(before, bench_words::part(input, from, e), e < to, line);
-    let next = if e < to { e + 1 } else { to };
+    let e = words::until(bench_words::part(input, 0, to), r.from, b'\n');
     Run {
-        from: next,
-        to,
-        text,
-        at: r.at,
+        from: if e < to { e + 1 } else { to },
+        text: grown(r.text, bench_words::part(input, r.from, e), e < to, line),
         over: false,
+        ..r
     }
 }
 
@@ -119,16 +106,11 @@ fn read(rt: &impl Eprint, source: &mut impl Read, t: Text, input: &mut [u8]) -> 
     if !good {
         let _ = rt.eprint("bench: reading standard input failed\n");
     }
-    let text = Text {
-        len: t.len,
-        long: t.long,
-        word: t.word,
-        ended: good & (got == 0) & ((0 < t.len) | t.long),
-    };
+    let ended = good & (got == 0) & ((0 < t.len) | t.long);
     Run {
         from: 0,
         to: got,
-        text,
+        text: Text { ended, ..t },
         at: 0,
         over: got == 0,
     }
@@ -144,55 +126,45 @@ fn turned(
     line: &mut [u8],
     out: &[u8],
 ) -> Run {
-    let at = r.at;
-    let text = r.text;
-    let from = r.from;
-    let to = r.to;
-    let left = from < to;
-    if left & (at < FULL) {
+    let left = r.from < r.to;
+    if left & (r.at < FULL) {
         return cut(r, input, line);
     }
-    if !flush(rt, out, at) {
+    if !flush(rt, out, r.at) {
         return begin(true);
     }
     if left {
         return Run {
-            from,
-            to,
-            text,
             at: 0,
             over: false,
+            ..r
         };
     }
-    read(rt, source, text, input)
+    read(rt, source, r.text, input)
 }
 
-// The answer to a line that has ended, without its line feed.
-fn answered(r: Run, state: State, line: &[u8], store: &mut [u8], out: &mut [u8]) -> Turn {
+// The answer to a line that has ended, without its line feed: the place behind it.
+fn answered(r: Run, state: &mut State, line: &[u8], store: &mut [u8], out: &mut [u8]) -> usize {
     let at = r.at;
     let t = r.text;
     if !(t.ended & t.word) {
-        return calls::said(state, at);
+        return at;
     }
     if t.long {
-        return calls::said(state, lent::word(out, at, b"? line too long"));
+        return lent::word(out, at, b"? line too long");
     }
-    let whole = bench_words::part(line, 0, t.len);
-    calls::answer(state, whole, store, out, at)
+    state.answer(bench_words::part(line, 0, t.len), store, out, at)
 }
 
 // Behind a line that has ended, a line feed, and the next line.
 fn onward(r: Run, out: &mut [u8], at: usize) -> Run {
-    let t = r.text;
-    if !t.ended {
+    if !r.text.ended {
         return r;
     }
     Run {
-        from: r.from,
-        to: r.to,
         text: no_text(),
         at: lent::byte(out, at, b'\n'),
-        over: r.over,
+        ..r
     }
 }
 
@@ -201,24 +173,19 @@ fn turn(
     rt: &(impl Print + Eprint),
     source: &mut impl Read,
     run: Run,
-    state: State,
+    state: &mut State,
     input: &mut [u8],
     line: &mut [u8],
     store: &mut [u8],
     out: &mut [u8],
-) -> Next {
+) -> Run {
     let r = turned(rt, source, run, input, line, out);
-    let t = answered(r, state, line, store, out);
-    let after = onward(r, out, t.at);
+    let at = answered(r, state, line, store, out);
+    let after = onward(r, out, at);
     if after.over {
         flush(rt, out, after.at);
     }
-    let next = t.state;
-    Next {
-        run: after,
-        state: next,
-        over: after.over,
-    }
+    after
 }
 
 // Reads to the end of the input. Nothing says that it ends, so the turns are counted.
@@ -230,16 +197,11 @@ fn read_all(
     store: &mut [u8],
     out: &mut [u8],
 ) {
-    let mut next = Next {
-        run: begin(false),
-        state: calls::fresh(),
-        over: false,
-    };
+    let mut run = begin(false);
+    let mut state = calls::fresh();
     for _ in 0..u64::MAX {
-        let run = next.run;
-        let state = next.state;
-        next = turn(rt, source, run, state, input, line, store, out);
-        if next.over {
+        run = turn(rt, source, run, &mut state, input, line, store, out);
+        if run.over {
             return;
         }
     }

@@ -1,17 +1,15 @@
 -- docs/BENCH.md, "The book of unanswered requests": a book as it is handed in, and the answers, case by case.
-use Rattle.std.specs.Prelude.{ℕ, zero, suc, ◌*◌, List, [], ◌∷◌, ◌++◌, get_or, drop, eqb}
+use Rattle.std.specs.Prelude.{ℕ, zero, suc, ◌*◌, List, [], ◌∷◌, ◌++◌, get_or, drop, eqb, Result, Ok, Err}
 use Rattle.refusal.specs.Test.{pick}
 use Rattle.text.specs.Text.{hex_of, decimal_of}
 use Rattle.bench_words.specs.Words.{wide_of, made_by, front_of}
 use Rattle.words.specs.Words.{text}
 use Rattle.book.specs.declared.Timed.{Timed}
 use Rattle.book.specs.Ticks.{timed}
-use Rattle.free_number.specs.declared.Given.{Given}
-use Rattle.free_number.specs.declared.Given.TheVariants.{Number, Refused as given·Refused}
-use Rattle.book.specs.declared.Freed.{Freed}
-use Rattle.book.specs.declared.Freed.TheVariants.{Command, Refused as freed·Refused}
+use Rattle.refusal.specs.declared.Refusal.{Refusal}
+use Rattle.refusal.specs.Refusals.{number_of}
 use Rattle.bench_book.specs.declared.Page.{Page}
-use Rattle.bench_book.specs.declared.Page.TheVariants.{Done, Number as a·Number, Command as a·Command, GivenUp, Book as the·Book}
+use Rattle.bench_book.specs.declared.Page.TheVariants.{Done, Number, Command, GivenUp, Book}
 
 -- "ticks of 0, 1, .., in 4 each; bytes 00 behind them, so a short end is filled up"
 abbrev pub tick_in : List ℕ → ℕ → ℕ
@@ -25,14 +23,14 @@ abbrev pub handed_book : ℕ → List ℕ → List ℕ → Timed
 handed_book last s t = timed (front_of 256 s) last (ticks_of t)
 
 -- "`number N`"
-abbrev pub number_texts : Given → List (List ℕ)
-number_texts (Number n) = text "0 number " ∷ decimal_of n ∷ []
-number_texts (given·Refused k) = decimal_of k ∷ []
+abbrev pub number_texts : Result ℕ Refusal → List (List ℕ)
+number_texts (Ok n) = text "0 number " ∷ decimal_of n ∷ []
+number_texts (Err k) = decimal_of (number_of k) ∷ []
 
 -- "`command CC`"
-abbrev pub command_texts : Freed → List (List ℕ)
-command_texts (Command c) = text "0 command " ∷ hex_of c ∷ []
-command_texts (freed·Refused k) = decimal_of k ∷ []
+abbrev pub command_texts : Result ℕ Refusal → List (List ℕ)
+command_texts (Ok c) = text "0 command " ∷ hex_of c ∷ []
+command_texts (Err k) = decimal_of (number_of k) ∷ []
 
 -- "`freed N`"
 abbrev pub given_up_texts : ℕ → List (List ℕ)
@@ -54,7 +52,7 @@ book_texts b = text "0 last " ∷ decimal_of b.book.last ∷ text " held" ∷ en
 -- the answer of a call that leaves this book: 0, or as above
 abbrev pub page_texts : Page → Timed → List (List ℕ)
 page_texts Done b = text "0" ∷ []
-page_texts (a·Number g) b = number_texts g
-page_texts (a·Command f) b = command_texts f
+page_texts (Number r) b = number_texts r
+page_texts (Command r) b = command_texts r
 page_texts (GivenUp n) b = given_up_texts n
-page_texts the·Book b = book_texts b
+page_texts Book b = book_texts b

@@ -9,14 +9,15 @@ ghost use Rattle.bench_book.specs.Pages.{tick_in, ticks_of, handed_book, entry_t
 ghost use Rattle.bench_book.specs.Pieces.{number_pieces, command_pieces, page_pieces};
 
 use bench_say::Pieces;
-use book::{Book, Freed, Given, Timed};
+use book::{Book, Timed};
+use refusal::Refusal;
 
 // What a call of this family answers: how many requests were given up is a number alone. A book that is shown is the one that the call leaves.
 #[derive(Clone, Copy)]
 pub enum Page {
     Done,
-    Number(Given),
-    Command(Freed),
+    Number(Result<u8, Refusal>),
+    Command(Result<u8, Refusal>),
     GivenUp(u16),
     Book,
 }
@@ -26,10 +27,8 @@ fn asked_in(s: &[u8]) -> [u8; 256]
     ensures { result ≡ front_of 256 s.now }
 {
     let mut asked = [0u8; 256];
-    let mut i: usize = 0;
-    while i < 256 {
+    for i in 0..256 {
         asked[i] = bench_words::byte_at(s, i);
-        i += 1;
     }
     asked
 }
@@ -45,10 +44,8 @@ fn ticks_in(s: &[u8]) -> [u32; 256]
     ensures { result ≡ ticks_of s.now }
 {
     let mut ticks = [0u32; 256];
-    let mut i: usize = 0;
-    while i < 256 {
+    for i in 0..256 {
         ticks[i] = tick_in(s, i as u8);
-        i += 1;
     }
     ticks
 }
@@ -66,22 +63,22 @@ pub fn handed(last: u8, s: &[u8], t: &[u8]) -> Timed
 }
 
 // The sequence number for a request.
-fn number(g: Given) -> Pieces
-    ensures { result ≡ number_pieces g }
+fn number(r: Result<u8, Refusal>) -> Pieces
+    ensures { result ≡ number_pieces r }
 {
-    match g {
-        Given::Number(n) => Pieces(0x12, n as u64, 0, 0, 0, 0, 0),
-        Given::Refused(k) => Pieces(4, k as u64, 0, 0, 0, 0, 0),
+    match r {
+        Ok(n) => Pieces(0x12, n as u64, 0, 0, 0, 0, 0),
+        Err(k) => Pieces(4, k.number() as u64, 0, 0, 0, 0, 0),
     }
 }
 
 // The command that a reply answers.
-fn command(f: Freed) -> Pieces
-    ensures { result ≡ command_pieces f }
+fn command(r: Result<u8, Refusal>) -> Pieces
+    ensures { result ≡ command_pieces r }
 {
-    match f {
-        Freed::Command(c) => Pieces(0x23, 0, 0, 0, 0, 0, c),
-        Freed::Refused(k) => Pieces(4, k as u64, 0, 0, 0, 0, 0),
+    match r {
+        Ok(c) => Pieces(0x23, 0, 0, 0, 0, 0, c),
+        Err(k) => Pieces(4, k.number() as u64, 0, 0, 0, 0, 0),
     }
 }
 
@@ -91,8 +88,8 @@ fn answer(p: Page, last: u8) -> Pieces
 {
     match p {
         Page::Done => Pieces(0x01, 0, 0, 0, 0, 0, 0),
-        Page::Number(g) => number(g),
-        Page::Command(f) => command(f),
+        Page::Number(r) => number(r),
+        Page::Command(r) => command(r),
         Page::GivenUp(n) => Pieces(0x52, n as u64, 0, 0, 0, 0, 0),
         Page::Book => Pieces(0x32, last as u64, 0x41, 0, 0, 0, 0),
     }
@@ -112,10 +109,8 @@ fn entries(out: &mut [u8], at: usize, asked: &[u8; 256], ticks: &[u32; 256]) -> 
     ensures { PutsAll (entries_texts 256 0 asked.now ticks.now) out.old at result out.new }
 {
     let mut e = at;
-    let mut i: usize = 0;
-    while i < 256 {
+    for i in 0..256 {
         e = entry(out, e, i as u8, asked[i], ticks[i]);
-        i += 1;
     }
     e
 }

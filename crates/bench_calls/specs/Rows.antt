@@ -1,6 +1,7 @@
 -- The table by its columns, and laws of the search.
-use Rattle.std.specs.Prelude.{ℕ, zero, suc, ◌+◌, ◌-◌, ◌≤◌, ◌<◌, ◌≡◌, refl, Bool, true, false, List, [], ◌∷◌, length, get_or, take, drop, eqb}
-use Rattle.std.proofs.Common.{sym, ap, ◌∙◌, drop_of_length-le, drop-cons, eq-eqb, ne_eqb, add-one, arith}
+use lib.Pointwise.{pointwise}
+use Rattle.std.specs.Prelude.{ℕ, ◌&&◌, nat_eq, suc, ◌+◌, ◌-◌, ◌≤◌, ◌<◌, ◌≡◌, refl, Bool, true, false, List, [], ◌∷◌, length, get_or, take, drop, eqb}
+use Rattle.std.proofs.Common.{sym, ap, ◌∙◌}
 use Rattle.refusal.specs.Test.{pick}
 use Rattle.words.specs.Words.{text, before}
 use Rattle.bench_words.specs.Words.{words_at}
@@ -30,27 +31,15 @@ pub row_found : (name : List ℕ) (k : ℕ) → k ≡ place_in name (names_of ta
 unfolding row_of
 row_found name k e = row_placed table name ∙ ap (λ (n : ℕ). get_or (numbers_of table) n 0) (sym e)
 
--- two runs are the same: a byte further, another byte, the end, another length
-pub same_turn : (s t : List ℕ) (i : ℕ) → i < length s → i < length t → get_or s i 0 ≡ get_or t i 0 → same_as (drop i s) (drop i t) ≡ same_as (drop (i + 1) s) (drop (i + 1) t)
+-- two runs are the same exactly if `==` finds them so
+pub same_is : (s t : List ℕ) → pointwise nat_eq s t ≡ same_as s t
 unfolding same_as
-same_turn s t i h l e = rw (add-one, drop-cons s i 0, drop-cons t i 0, eq-eqb (get_or s i 0) (get_or t i 0) e)
-
-pub same_differs : (s t : List ℕ) (i : ℕ) → i < length s → i < length t → (get_or s i 0 ≡ get_or t i 0 → ⊥) → same_as (drop i s) (drop i t) ≡ false
-unfolding same_as
-same_differs s t i h l n = rw (drop-cons s i 0, drop-cons t i 0, ne_eqb (get_or s i 0) (get_or t i 0) n)
-
-pub same_end : (s t : List ℕ) (i : ℕ) → length s ≤ i → length t ≤ i → same_as (drop i s) (drop i t) ≡ true
-unfolding same_as
-same_end s t i h l = rw (drop_of_length-le s h, drop_of_length-le t l)
-
-pub same_length_differs : (s t : List ℕ) → (length s ≡ length t → ⊥) → same_as s t ≡ false
-unfolding same_as
-same_length_differs [] [] n = absurd (n refl)
-same_length_differs [] (y ∷ t) n = refl
-same_length_differs (x ∷ s) [] n = refl
-same_length_differs (x ∷ s) (y ∷ t) n = go (eqb x y) (same_length_differs s t (λ e. n (ap suc e)))
+same_is [] [] = refl
+same_is [] (y ∷ t) = refl
+same_is (x ∷ s) [] = refl
+same_is (x ∷ s) (y ∷ t) = go (eqb x y) (same_is s t)
   where
-    go : (b : Bool) → same_as s t ≡ false → pick b (same_as s t) false ≡ false
+    go : (b : Bool) → pointwise nat_eq s t ≡ same_as s t → b && pointwise nat_eq s t ≡ pick b (same_as s t) false
     go true h = h
     go false h = refl
 

@@ -5,27 +5,27 @@
 ghost use Rattle.std.specs.Prelude.{◌≡◌};
 ghost use Rattle.lent.specs.All.{PutsAll};
 ghost use Rattle.bench_words.specs.Words.{words_at};
-ghost use Rattle.bench_calls.specs.Table.{same_as, place_in, row_of, help_texts};
+ghost use Rattle.bench_calls.specs.Table.{place_in, row_of, help_texts};
 ghost use Rattle.bench_calls.specs.Called.{measured_of, Calls, refused_texts};
 ghost use Rattle.bench_calls.specs.Faults.{fault_kind};
 
 use bench_say::Pieces;
-use bench_words::{Groups, Parsed};
+use bench_words::Groups;
 
-// A line's call, by its number in the table, with its groups; or that it is none.
+// A line's call, by its number in the table, with its groups.
 #[derive(Drop)]
 pub struct Call {
     pub number: usize,
     pub groups: Groups,
 }
 
-#[derive(Drop)]
-pub enum Called {
+// Why a line is no call.
+#[derive(Clone, Copy, Debug, PartialEq, Eq)]
+pub enum Fault {
     NoSuchCall,
     NotAByte,
     WrongGroups,
     WrongBytes,
-    Call(Call),
 }
 
 // A row for each call: its number, how many groups it takes, how many bytes the first has at least and at most, and how
@@ -138,7 +138,7 @@ const ROWS: [usize; 94] = [
     0xB0_1_000_000_FFF_FFF, // help
 ];
 
-// Their names, in the order of the rows, with a blank between two.
+// Their names, in the order of the rows, with a blank between two. (They stand apart from the rows since the help puts them as they stand here.)
 const NAMES: [u8; 1062] =
     *b"request write_basic write_unicast write_colour_xy write_colour_tc write_colour_rgbwaf \
 write_basic_quiet write_unicast_quiet write_colour_xy_quiet write_colour_tc_quiet \
@@ -154,24 +154,8 @@ mark_set capture_empty capture_append capture_append_at capture_run capture_run_
 capture_open capture_count capture_prefix capture_record capture_show seasons \
 seasons_begin seasons_part seasons_end plan clock clock_runs write_clock help";
 
-// Whether two runs hold the same bytes.
-fn same(s: &[u8], t: &[u8]) -> bool
-    ensures { result ≡ same_as s.now t.now }
-{
-    if s.len() != t.len() {
-        return false;
-    }
-    let mut i: usize = 0;
-    while i < s.len() {
-        if s[i] != t[i] {
-            return false;
-        }
-        i += 1;
-    }
-    true
-}
-
-// The place of the first of some names that is this one, or how many there are. The names are parted by blanks.
+// The place of the first of some names that is this one, or how many there are. The names are parted by blanks. (A while: each turn goes on
+// behind the name that it read.)
 fn place(names: &[u8], name: &[u8]) -> usize
     ensures { result ≡ place_in name.now (words_at 0 names.now) }
 {
@@ -179,7 +163,7 @@ fn place(names: &[u8], name: &[u8]) -> usize
     let mut k: usize = 0;
     while i <= names.len() {
         let e = words::until(names, i, b' ');
-        if same(&names[i..e], name) {
+        if &names[i..e] == name {
             return k;
         }
         i = e + 1;
@@ -188,7 +172,7 @@ fn place(names: &[u8], name: &[u8]) -> usize
     k
 }
 
-// The row of a name, or 0.
+// The row of a name, or 0, which is no row: the definition of it says 0.
 fn row_of(name: &[u8]) -> usize
     ensures { result ≡ row_of name.now }
 {
@@ -197,78 +181,73 @@ fn row_of(name: &[u8]) -> usize
 }
 
 // Whether the groups are those that the row asks for.
-fn measured(row: usize, g: Groups) -> Called
+fn measured(row: usize, g: Groups) -> Result<Call, Fault>
     ensures { result ≡ measured_of row g }
 {
-    let a = g.a;
-    let b = g.b;
-    let c = g.c;
     if row / 0x1_000_000_000_000 % 16 != g.count {
-        return Called::WrongGroups;
+        return Err(Fault::WrongGroups);
     }
-    if a < row / 0x1_000_000_000 % 0x1000 {
-        return Called::WrongBytes;
+    if g.a < row / 0x1_000_000_000 % 0x1000 {
+        return Err(Fault::WrongBytes);
     }
-    if row / 0x1_000_000 % 0x1000 < a {
-        return Called::WrongBytes;
+    if row / 0x1_000_000 % 0x1000 < g.a {
+        return Err(Fault::WrongBytes);
     }
-    if b < a {
-        return Called::WrongBytes;
+    if g.b < g.a {
+        return Err(Fault::WrongBytes);
     }
-    if row / 0x1000 % 0x1000 < b - a {
-        return Called::WrongBytes;
+    if row / 0x1000 % 0x1000 < g.b - g.a {
+        return Err(Fault::WrongBytes);
     }
-    if c < b {
-        return Called::WrongBytes;
+    if g.c < g.b {
+        return Err(Fault::WrongBytes);
     }
-    if row % 0x1000 < c - b {
-        return Called::WrongBytes;
+    if row % 0x1000 < g.c - g.b {
+        return Err(Fault::WrongBytes);
     }
-    Called::Call(Call {
+    Ok(Call {
         number: row / 0x10_000_000_000_000,
         groups: g,
     })
 }
 
 // What a line with a word in it calls. The bytes of its groups are put to the front of the run that is lent.
-pub fn read(line: &[u8], bytes: &mut [u8]) -> Called
+pub fn read(line: &[u8], bytes: &mut [u8]) -> Result<Call, Fault>
     ensures { Calls line.now bytes.old result bytes.new }
 {
     let a = bench_words::first(line);
     let e = words::until(line, a, b' ');
     let row = row_of(&line[a..e]);
     if row == 0 {
-        return Called::NoSuchCall;
+        return Err(Fault::NoSuchCall);
     }
-    let p = bench_words::parse(line, e, bytes);
-    match p {
-        Parsed::NotAByte => Called::NotAByte,
-        Parsed::Groups(g) => measured(row, g),
+    match bench_words::parse(line, e, bytes) {
+        None => Err(Fault::NotAByte),
+        Some(g) => measured(row, g),
     }
 }
 
 // What stands for a call that is none, by the places of the answers below (crate bench_say).
-fn fault(c: Called) -> usize
-    ensures { result ≡ fault_kind c }
+fn kind_of(fault: Fault) -> usize
+    ensures { result ≡ fault_kind fault }
 {
-    match c {
-        Called::NoSuchCall => 0x01,
-        Called::NotAByte => 0x11,
-        Called::WrongGroups => 0x21,
-        Called::WrongBytes => 0x31,
-        Called::Call(_) => 0,
+    match fault {
+        Fault::NoSuchCall => 0x01,
+        Fault::NotAByte => 0x11,
+        Fault::WrongGroups => 0x21,
+        Fault::WrongBytes => 0x31,
     }
 }
 
 // The answer to a line that is no call.
-pub fn refused(out: &mut [u8], at: usize, c: Called) -> usize
-    ensures { PutsAll (refused_texts c) out.old at result out.new }
+pub fn refused(out: &mut [u8], at: usize, fault: Fault) -> usize
+    ensures { PutsAll (refused_texts fault) out.old at result out.new }
 {
     bench_say::put(
         out,
         at,
         b"? no such call,? not a byte,? wrong number of groups,? wrong number of bytes",
-        Pieces(fault(c), 0, 0, 0, 0, 0, 0),
+        Pieces(kind_of(fault), 0, 0, 0, 0, 0, 0),
     )
 }
 

@@ -1,31 +1,30 @@
 -- The answers by value, as the code has them, and that they say the texts of docs/BENCH.md; and counts one by one.
-use Rattle.std.specs.Prelude.{ℕ, suc, ◌+◌, ◌-◌, ◌*◌, ◌≤◌, ◌<◌, ◌≡◌, refl, List, [], ◌∷◌, ◌++◌, length, get_or, take, set}
+use Rattle.std.specs.Prelude.{ℕ, Option, Some, None, suc, ◌+◌, ◌-◌, ◌*◌, ◌≤◌, ◌<◌, ◌≡◌, refl, List, [], ◌∷◌, ◌++◌, length, get_or, take, set}
 use Rattle.std.proofs.Common.{sym, ap, ◌∙◌, take-suc-set, add-one, arith}
 use Rattle.std.proofs.Math.Seq.{take-length}
 use Rattle.words.specs.Words.{before, word_in, text}
 use Rattle.text.specs.Text.{decimal_of}
 use Rattle.bench_say.specs.Pieces.{pieces_texts, three}
 use Rattle.bench_say.specs.declared.Pieces.{Pieces}
-use Rattle.summary.specs.declared.Seconds.{Seconds}
-use Rattle.summary.specs.declared.Seconds.TheVariants.{Absent, At}
 use Rattle.capture.specs.declared.Mark.{Mark}
 use Rattle.bench_capture.specs.Carried.{number_at, counts_at}
 use Rattle.bench_capture.specs.Told.{first_texts, last_texts, numbers_texts, mark_texts, head_texts}
+use Rattle.refusal.specs.Refusals.{number_of}
 use Rattle.bench_capture.specs.declared.Head.{Head}
 use Rattle.bench_capture.specs.declared.Head.TheVariants.{Done, Used, Ran, Open, At as head·At, Refused}
 
 abbrev pub names : List ℕ
 names = text "0,0 used , last , last absent,0 seconds , mark , next , records , first , first absent,0 in , refused , used "
 
-abbrev pub mark_pieces : ℕ → ℕ → Seconds → Pieces
-mark_pieces a n Absent = three a n 0x31 0 0 0
-mark_pieces a n (At t) = three a n 0x22 t 0 0
+abbrev pub mark_pieces : ℕ → ℕ → Option ℕ → Pieces
+mark_pieces a n None = three a n 0x31 0 0 0
+mark_pieces a n (Some t) = three a n 0x22 t 0 0
 
-abbrev pub summary_pieces : ℕ → Seconds → Seconds → Pieces
-summary_pieces n Absent Absent = three 0x72 n 0x91 0 0x31 0
-summary_pieces n Absent (At u) = three 0x72 n 0x91 0 0x22 u
-summary_pieces n (At t) Absent = three 0x72 n 0x82 t 0x31 0
-summary_pieces n (At t) (At u) = three 0x72 n 0x82 t 0x22 u
+abbrev pub summary_pieces : ℕ → Option ℕ → Option ℕ → Pieces
+summary_pieces n None None = three 0x72 n 0x91 0 0x31 0
+summary_pieces n None (Some u) = three 0x72 n 0x91 0 0x22 u
+summary_pieces n (Some t) None = three 0x72 n 0x82 t 0x31 0
+summary_pieces n (Some t) (Some u) = three 0x72 n 0x82 t 0x22 u
 
 abbrev pub head_pieces : Head → Pieces
 head_pieces Done = three 0x01 0 0 0 0 0
@@ -33,18 +32,18 @@ head_pieces (Used n) = three 0x12 n 0 0 0 0
 head_pieces (Ran n k u) = three 0xA2 n 0xB2 k 0xC2 u
 head_pieces (Open m) = mark_pieces 0x12 m.used m.last
 head_pieces (head·At t) = three 0x42 t 0 0 0 0
-head_pieces (Refused k) = three 4 k 0 0 0 0
+head_pieces (Refused k) = three 4 (number_of k) 0 0 0 0
 
 -- a mark behind either name
-opened_said : (n : ℕ) (l : Seconds) → pieces_texts names (mark_pieces 0x12 n l) ≡ text "0 used " ∷ decimal_of n ∷ last_texts l
+opened_said : (n : ℕ) (l : Option ℕ) → pieces_texts names (mark_pieces 0x12 n l) ≡ text "0 used " ∷ decimal_of n ∷ last_texts l
 unfolding before word_in
-opened_said n Absent = refl
-opened_said n (At t) = refl
+opened_said n None = refl
+opened_said n (Some t) = refl
 
-mark_said : (n : ℕ) (l : Seconds) → pieces_texts names (mark_pieces 0x52 n l) ≡ text " mark " ∷ decimal_of n ∷ last_texts l
+mark_said : (n : ℕ) (l : Option ℕ) → pieces_texts names (mark_pieces 0x52 n l) ≡ text " mark " ∷ decimal_of n ∷ last_texts l
 unfolding before word_in
-mark_said n Absent = refl
-mark_said n (At t) = refl
+mark_said n None = refl
+mark_said n (Some t) = refl
 
 pub mark_of : (m : Mark) {p : Pieces} → p ≡ mark_pieces 0x52 m.used m.last → pieces_texts names p ≡ mark_texts (text " mark ") m
 mark_of m {p} e = ap (pieces_texts names) e ∙ mark_said m.used m.last
@@ -65,14 +64,14 @@ head_said (Refused k) = refl
 pub head_of : (h : Head) {p : Pieces} → p ≡ head_pieces h → pieces_texts names p ≡ head_texts h
 head_of h {p} e = ap (pieces_texts names) e ∙ head_said h
 
-times_said : (n : ℕ) (f l : Seconds) → pieces_texts names (summary_pieces n f l) ≡ text " records " ∷ decimal_of n ∷ (first_texts f ++ last_texts l)
+times_said : (n : ℕ) (f l : Option ℕ) → pieces_texts names (summary_pieces n f l) ≡ text " records " ∷ decimal_of n ∷ (first_texts f ++ last_texts l)
 unfolding before word_in
-times_said n Absent Absent = refl
-times_said n Absent (At u) = refl
-times_said n (At t) Absent = refl
-times_said n (At t) (At u) = refl
+times_said n None None = refl
+times_said n None (Some u) = refl
+times_said n (Some t) None = refl
+times_said n (Some t) (Some u) = refl
 
-pub times_of : (n : ℕ) (f l : Seconds) {p : Pieces} → p ≡ summary_pieces n f l
+pub times_of : (n : ℕ) (f l : Option ℕ) {p : Pieces} → p ≡ summary_pieces n f l
     → pieces_texts names p ≡ text " records " ∷ decimal_of n ∷ (first_texts f ++ last_texts l)
 times_of n f l {p} e = ap (pieces_texts names) e ∙ times_said n f l
 

@@ -1,25 +1,24 @@
 -- docs/BENCH.md, "The capture": the answers, case by case.
-use Rattle.std.specs.Prelude.{ℕ, zero, suc, List, [], ◌∷◌, ◌++◌, get_or}
+use Rattle.std.specs.Prelude.{ℕ, Option, Some, None, zero, suc, List, [], ◌∷◌, ◌++◌, get_or}
 use Rattle.text.specs.Text.{decimal_of}
 use Rattle.words.specs.Words.{text}
 use Rattle.bench_say.specs.Said.{run_of}
-use Rattle.summary.specs.declared.Seconds.{Seconds}
-use Rattle.summary.specs.declared.Seconds.TheVariants.{Absent, At}
 use Rattle.summary.specs.declared.Summary.{Summary}
 use Rattle.capture.specs.declared.Mark.{Mark}
+use Rattle.refusal.specs.Refusals.{number_of}
 use Rattle.bench_capture.specs.declared.Head.{Head}
 use Rattle.bench_capture.specs.declared.Head.TheVariants.{Done, Used, Ran, Open, At as head·At, Refused}
 use Rattle.bench_capture.specs.declared.Tail.{Tail}
 use Rattle.bench_capture.specs.declared.Tail.TheVariants.{Nothing, Counted, Next, All}
 
 -- "`first absent`, `last absent` where absent"
-abbrev pub first_texts : Seconds → List (List ℕ)
-first_texts Absent = text " first absent" ∷ []
-first_texts (At t) = text " first " ∷ decimal_of t ∷ []
+abbrev pub first_texts : Option ℕ → List (List ℕ)
+first_texts None = text " first absent" ∷ []
+first_texts (Some t) = text " first " ∷ decimal_of t ∷ []
 
-abbrev pub last_texts : Seconds → List (List ℕ)
-last_texts Absent = text " last absent" ∷ []
-last_texts (At t) = text " last " ∷ decimal_of t ∷ []
+abbrev pub last_texts : Option ℕ → List (List ℕ)
+last_texts None = text " last absent" ∷ []
+last_texts (Some t) = text " last " ∷ decimal_of t ∷ []
 
 -- k numbers from place i on, each behind a blank
 unfoldable pub numbers_texts : ℕ → ℕ → List ℕ → List (List ℕ)
@@ -42,7 +41,7 @@ head_texts (Used n) = text "0 used " ∷ decimal_of n ∷ []
 head_texts (Ran n k u) = text "0 in " ∷ decimal_of n ∷ text " refused " ∷ decimal_of k ∷ text " used " ∷ decimal_of u ∷ []
 head_texts (Open m) = mark_texts (text "0 used ") m
 head_texts (head·At t) = text "0 seconds " ∷ decimal_of t ∷ []
-head_texts (Refused k) = decimal_of k ∷ []
+head_texts (Refused k) = decimal_of (number_of k) ∷ []
 
 -- how it goes on, with this summary and these bytes: "SUMMARY", "`datagram B B .. next N`", "`bytes B B ..` SUMMARY `mark N last N`"
 abbrev pub tail_texts : Tail → Summary → List ℕ → List (List ℕ)

@@ -8,18 +8,20 @@ ghost use Rattle.text.specs.Text.{decimal_of};
 ghost use Rattle.lent.specs.All.{PutsAll};
 ghost use Rattle.bench_say.specs.Pieces.{pieces_texts};
 ghost use Rattle.bench_capture.specs.Carried.{at_first, number_at, seconds_at, counts_at, tells, capture_set, summary_set, mark_set};
-ghost use Rattle.bench_capture.specs.Carried.{becomes, on_found, on_appended, on_ran, on_ran_at, on_opening, on_counting, on_step, on_show};
+ghost use Rattle.bench_capture.specs.Carried.{becomes, refuses, on_found, on_appended, on_ran, on_ran_at, on_opening, on_counting, on_step, on_show};
 ghost use Rattle.bench_capture.specs.Told.{numbers_texts, summary_texts, head_texts, tail_texts};
 ghost use Rattle.bench_capture.specs.Pieces.{names, mark_pieces, summary_pieces, head_pieces};
 
 use append::Appended;
 use bench_say::Pieces;
-use capture::{Found, Kept, Mark, Next, Opening};
+use capture::{Kept, Mark};
 use morning::{Ran, RanAt};
-use summary::{Counting, Seconds, Summary, Went};
+use record::Stored;
+use refusal::Refusal;
+use summary::Summary;
 
 // What is carried of a capture beside the bytes of its buffer: how many these are, how many are claimed to be in use, a mark, a summary.
-#[derive(Clone, Copy)]
+#[derive(Clone, Copy, Debug, PartialEq, Eq)]
 pub struct Carried {
     pub size: usize,
     pub used: usize,
@@ -36,7 +38,7 @@ pub enum Head {
     Ran(usize, usize, usize),
     Open(Mark),
     At(u32),
-    Refused(u8),
+    Refused(Refusal),
 }
 
 // How it goes on: not at all, with a summary, with a datagram and the next place, or with all that is carried.
@@ -66,7 +68,7 @@ pub fn fresh() -> Carried
         used: 0,
         mark: Mark {
             used: 0,
-            last: Seconds::Absent,
+            last: None,
         },
         summary: summary::nothing(),
     }
@@ -81,14 +83,14 @@ fn number_at(s: &[u8], i: usize) -> u32
 }
 
 // A flag byte of a group, and seconds in the four bytes behind it.
-fn seconds_at(s: &[u8], i: usize) -> Seconds
+fn seconds_at(s: &[u8], i: usize) -> Option<u32>
     requires { i ≤ 53 }
     ensures { result ≡ seconds_at s.now i }
 {
     if bench_words::byte_at(s, i) == 0 {
-        Seconds::Absent
+        None
     } else {
-        Seconds::At(number_at(s, i + 1))
+        Some(number_at(s, i + 1))
     }
 }
 
@@ -97,10 +99,8 @@ fn counts_in(s: &[u8]) -> [u32; 11]
     ensures { result ≡ counts_at 11 s.now }
 {
     let mut counts = [0u32; 11];
-    let mut i: usize = 0;
-    while i < 11 {
+    for i in 0..11 {
         counts[i] = number_at(s, 14 + i * 4);
-        i += 1;
     }
     counts
 }
@@ -109,209 +109,157 @@ fn counts_in(s: &[u8]) -> [u32; 11]
 fn tells(c: Carried, head: Head, tail: Tail) -> Moved
     ensures { result ≡ tells c head tail }
 {
-    let summary = c.summary;
     Moved {
         carried: c,
         head,
         tail,
-        summary,
+        summary: c.summary,
     }
+}
+
+// A call that was refused.
+fn refuses(c: Carried, k: Refusal) -> Moved
+    ensures { result ≡ refuses c k }
+{
+    tells(c, Head::Refused(k), Tail::Nothing)
 }
 
 // A buffer of so many bytes, and how many are claimed to be in use.
 pub fn capture_set(c: Carried, size: usize, used: usize) -> Moved
     ensures { result ≡ capture_set c size used }
 {
-    let mark = c.mark;
-    let summary = c.summary;
-    tells(
-        Carried {
-            size,
-            used,
-            mark,
-            summary,
-        },
-        Head::Done,
-        Tail::Nothing,
-    )
+    tells(Carried { size, used, ..c }, Head::Done, Tail::Nothing)
 }
 
 // A summary that is handed in.
 pub fn summary_set(c: Carried, s: &[u8]) -> Moved
     ensures { result ≡ summary_set c s.now }
 {
-    let mark = c.mark;
+    let counts = counts_in(s);
     let summary = Summary {
         records: number_at(s, 0),
         first: seconds_at(s, 4),
         last: seconds_at(s, 9),
-        counts: counts_in(s),
+        counts,
     };
-    tells(
-        Carried {
-            size: c.size,
-            used: c.used,
-            mark,
-            summary,
-        },
-        Head::Done,
-        Tail::Nothing,
-    )
+    tells(Carried { summary, ..c }, Head::Done, Tail::Nothing)
 }
 
 // A mark that is handed in.
 pub fn mark_set(c: Carried, s: &[u8]) -> Moved
     ensures { result ≡ mark_set c s.now }
 {
-    let summary = c.summary;
     let mark = Mark {
         used: bench_words::wide64(s) as usize,
         last: seconds_at(s, 8),
     };
-    tells(
-        Carried {
-            size: c.size,
-            used: c.used,
-            mark,
-            summary,
-        },
-        Head::Done,
-        Tail::Nothing,
-    )
+    tells(Carried { mark, ..c }, Head::Done, Tail::Nothing)
 }
 
 // What is carried where bytes in use, mark and summary become those that are kept.
 fn becomes(c: Carried, kept: Kept) -> Carried
     ensures { result ≡ becomes c kept }
 {
-    let mark = kept.mark;
-    let summary = kept.summary;
     Carried {
         size: c.size,
-        used: mark.used,
-        mark,
-        summary,
+        used: kept.mark.used,
+        mark: kept.mark,
+        summary: kept.summary,
     }
 }
 
-// What emptying a capture found, an append by a mark, or a look for the longest good prefix, behind which more is shown.
-pub fn found(c: Carried, f: Found, more: Tail) -> Moved
-    ensures { result ≡ on_found f.went c f.kept more }
+// What emptying a capture answered, an append by a mark, or a look for the longest good prefix, behind which more is shown.
+pub fn found(c: Carried, r: Result<Kept, Refusal>, more: Tail) -> Moved
+    ensures { result ≡ on_found r c more }
 {
-    let went = f.went;
-    let kept = f.kept;
-    let mark = kept.mark;
-    match went {
-        Went::Refused(k) => tells(c, Head::Refused(k), Tail::Nothing),
-        Went::Well => tells(becomes(c, kept), Head::Used(mark.used), more),
+    match r {
+        Ok(kept) => tells(becomes(c, kept), Head::Used(kept.mark.used), more),
+        Err(k) => refuses(c, k),
     }
 }
 
 // What an append by the letter answered.
-pub fn appended(c: Carried, a: Appended) -> Moved
-    ensures { result ≡ on_appended a.went c a }
+pub fn appended(c: Carried, r: Result<Appended, Refusal>) -> Moved
+    ensures { result ≡ on_appended r c }
 {
-    let went = a.went;
-    let mark = c.mark;
-    let summary = a.summary;
-    match went {
-        Went::Refused(k) => tells(c, Head::Refused(k), Tail::Nothing),
-        Went::Well => tells(
+    match r {
+        Ok(a) => tells(
             Carried {
-                size: c.size,
                 used: a.used,
-                mark,
-                summary,
+                summary: a.summary,
+                ..c
             },
             Head::Used(a.used),
             Tail::Nothing,
         ),
+        Err(k) => refuses(c, k),
     }
 }
 
 // What a run by the letter answered.
-pub fn ran(c: Carried, r: Ran) -> Moved
-    ensures { result ≡ on_ran r.went c r }
+pub fn ran(c: Carried, r: Result<Ran, Refusal>) -> Moved
+    ensures { result ≡ on_ran r c }
 {
-    let went = r.went;
-    let mark = c.mark;
-    let summary = r.summary;
-    match went {
-        Went::Refused(k) => tells(c, Head::Refused(k), Tail::Nothing),
-        Went::Well => tells(
+    match r {
+        Ok(a) => tells(
             Carried {
-                size: c.size,
-                used: r.used,
-                mark,
-                summary,
+                used: a.used,
+                summary: a.summary,
+                ..c
             },
-            Head::Ran(r.entered, r.refused, r.used),
+            Head::Ran(a.entered, a.refused, a.used),
             Tail::Nothing,
         ),
+        Err(k) => refuses(c, k),
     }
 }
 
 // What a run by a mark answered.
-pub fn ran_at(c: Carried, r: RanAt) -> Moved
-    ensures { result ≡ on_ran_at r.went c r }
+pub fn ran_at(c: Carried, r: Result<RanAt, Refusal>) -> Moved
+    ensures { result ≡ on_ran_at r c }
 {
-    let went = r.went;
-    let kept = r.kept;
-    let mark = kept.mark;
-    match went {
-        Went::Refused(k) => tells(c, Head::Refused(k), Tail::Nothing),
-        Went::Well => tells(
-            becomes(c, kept),
-            Head::Ran(r.entered, r.refused, mark.used),
+    match r {
+        Ok(a) => tells(
+            becomes(c, a.kept),
+            Head::Ran(a.entered, a.refused, a.kept.mark.used),
             Tail::Nothing,
         ),
+        Err(k) => refuses(c, k),
     }
 }
 
 // What opening a capture answered.
-pub fn opened(c: Carried, o: Opening) -> Moved
-    ensures { result ≡ on_opening o c }
+pub fn opened(c: Carried, r: Result<Mark, Refusal>) -> Moved
+    ensures { result ≡ on_opening r c }
 {
-    let summary = c.summary;
-    match o {
-        Opening::Refused(k) => tells(c, Head::Refused(k), Tail::Nothing),
-        Opening::Open(mark) => tells(
-            Carried {
-                size: c.size,
-                used: c.used,
-                mark,
-                summary,
-            },
-            Head::Open(mark),
-            Tail::Nothing,
-        ),
+    match r {
+        Ok(mark) => tells(Carried { mark, ..c }, Head::Open(mark), Tail::Nothing),
+        Err(k) => refuses(c, k),
     }
 }
 
 // What counting afresh answered.
-pub fn counted(c: Carried, x: Counting) -> Moved
-    ensures { result ≡ on_counting x.went c x.summary }
+pub fn counted(c: Carried, r: Result<Summary, Refusal>) -> Moved
+    ensures { result ≡ on_counting r c }
 {
-    let went = x.went;
-    let summary = x.summary;
-    match went {
-        Went::Refused(k) => tells(c, Head::Refused(k), Tail::Nothing),
-        Went::Well => Moved {
+    match r {
+        Ok(summary) => Moved {
             carried: c,
             head: Head::Done,
             tail: Tail::Counted,
             summary,
         },
+        Err(k) => refuses(c, k),
     }
 }
 
 // What stands at a place.
-pub fn stepped(c: Carried, x: Next) -> Moved
-    ensures { result ≡ on_step x c }
+pub fn stepped(c: Carried, r: Result<Stored, Refusal>) -> Moved
+    ensures { result ≡ on_step r c }
 {
-    match x {
-        Next::Refused(k) => tells(c, Head::Refused(k), Tail::Nothing),
-        Next::Record(y) => tells(c, Head::At(y.seconds), Tail::Next(y.next)),
+    match r {
+        Ok(x) => tells(c, Head::At(x.seconds), Tail::Next(x.next)),
+        Err(k) => refuses(c, k),
     }
 }
 
@@ -319,8 +267,7 @@ pub fn stepped(c: Carried, x: Next) -> Moved
 pub fn shown(c: Carried) -> Moved
     ensures { result ≡ on_show c }
 {
-    let mark = c.mark;
-    tells(c, Head::Used(c.used), Tail::All(mark))
+    tells(c, Head::Used(c.used), Tail::All(c.mark))
 }
 
 // Pieces with the names of this family: the places of the names are in the pieces' kinds (crate bench_say).
@@ -339,27 +286,22 @@ fn put(out: &mut [u8], at: usize, p: Pieces) -> usize
 fn mark(a: usize, m: Mark) -> Pieces
     ensures { result ≡ mark_pieces a m.used m.last }
 {
-    let last = m.last;
-    match last {
-        Seconds::Absent => Pieces(a, m.used as u64, 0x31, 0, 0, 0, 0),
-        Seconds::At(t) => Pieces(a, m.used as u64, 0x22, t as u64, 0, 0, 0),
+    match m.last {
+        None => Pieces(a, m.used as u64, 0x31, 0, 0, 0, 0),
+        Some(t) => Pieces(a, m.used as u64, 0x22, t as u64, 0, 0, 0),
     }
 }
 
 // A summary but for its counts.
-fn times(records: u32, first: Seconds, last: Seconds) -> Pieces
+fn times(records: u32, first: Option<u32>, last: Option<u32>) -> Pieces
     ensures { result ≡ summary_pieces records first last }
 {
     let n = records as u64;
-    match first {
-        Seconds::Absent => match last {
-            Seconds::Absent => Pieces(0x72, n, 0x91, 0, 0x31, 0, 0),
-            Seconds::At(u) => Pieces(0x72, n, 0x91, 0, 0x22, u as u64, 0),
-        },
-        Seconds::At(t) => match last {
-            Seconds::Absent => Pieces(0x72, n, 0x82, t as u64, 0x31, 0, 0),
-            Seconds::At(u) => Pieces(0x72, n, 0x82, t as u64, 0x22, u as u64, 0),
-        },
+    match (first, last) {
+        (None, None) => Pieces(0x72, n, 0x91, 0, 0x31, 0, 0),
+        (None, Some(u)) => Pieces(0x72, n, 0x91, 0, 0x22, u as u64, 0),
+        (Some(t), None) => Pieces(0x72, n, 0x82, t as u64, 0x31, 0, 0),
+        (Some(t), Some(u)) => Pieces(0x72, n, 0x82, t as u64, 0x22, u as u64, 0),
     }
 }
 
@@ -376,10 +318,8 @@ fn numbers(out: &mut [u8], at: usize, n: &[u32; 11]) -> usize
     ensures { PutsAll (numbers_texts 11 0 n.now) out.old at result out.new }
 {
     let mut e = at;
-    let mut i: usize = 0;
-    while i < 11 {
-        e = number(out, e, n[i]);
-        i += 1;
+    for k in n {
+        e = number(out, e, *k);
     }
     e
 }
@@ -388,10 +328,8 @@ fn numbers(out: &mut [u8], at: usize, n: &[u32; 11]) -> usize
 fn summary(out: &mut [u8], at: usize, x: Summary) -> usize
     ensures { PutsAll (summary_texts x) out.old at result out.new }
 {
-    let first = x.first;
-    let last = x.last;
     let counts = x.counts;
-    let e = put(out, at, times(x.records, first, last));
+    let e = put(out, at, times(x.records, x.first, x.last));
     let f = lent::word(out, e, b" counts");
     numbers(out, f, &counts)
 }
@@ -406,7 +344,7 @@ fn front(h: Head) -> Pieces
         Head::Ran(n, k, u) => Pieces(0xA2, n as u64, 0xB2, k as u64, 0xC2, u as u64, 0),
         Head::Open(m) => mark(0x12, m),
         Head::At(t) => Pieces(0x42, t as u64, 0, 0, 0, 0, 0),
-        Head::Refused(k) => Pieces(4, k as u64, 0, 0, 0, 0, 0),
+        Head::Refused(k) => Pieces(4, k.number() as u64, 0, 0, 0, 0, 0),
     }
 }
 

@@ -10,8 +10,8 @@ ghost use Rattle.clock_day.specs.Day.{runs_at};
 ghost use Rattle.bench_clock.specs.Given.{flag_in, given_in, offset_by, clock_in};
 ghost use Rattle.bench_clock.specs.Told.{time_texts, offset_texts, days_texts, clock_texts, day_texts};
 
-use clock_day::{Given, Run};
-use clock_text::{Clock, Offset, Reading, Time};
+use clock_day::Given;
+use clock_text::{Clock, Offset, Time};
 
 // Whether the clock is astronomical: 00 is no, every other byte is yes.
 fn flag_in(s: &[u8]) -> bool
@@ -36,13 +36,11 @@ fn given_in(s: &[u8]) -> Given
 fn offset_by(kind: u8, t: Time) -> Offset
     ensures { result ≡ offset_by kind t }
 {
-    if kind == 0 {
-        return Offset::Absent;
+    match kind {
+        0 => Offset::Absent,
+        1 => Offset::Later(t),
+        _ => Offset::Earlier(t),
     }
-    if kind == 1 {
-        return Offset::Later(t);
-    }
-    Offset::Earlier(t)
 }
 
 // The clock that is handed in to be written.
@@ -59,14 +57,13 @@ pub fn clock_in(s: &[u8]) -> Clock
         minute: bench_words::byte_at(s, 9),
         second: bench_words::byte_at(s, 10),
     };
-    let offset = offset_by(bench_words::byte_at(s, 7), span);
     Clock {
         time,
         weekdays: bench_words::byte_at(s, 3),
         day: bench_words::byte_at(s, 4),
         month: bench_words::byte_at(s, 5),
         year: bench_words::byte_at(s, 6),
-        offset,
+        offset: offset_by(bench_words::byte_at(s, 7), span),
     }
 }
 
@@ -74,11 +71,11 @@ pub fn clock_in(s: &[u8]) -> Clock
 fn time(out: &mut [u8], at: usize, t: Time) -> usize
     ensures { PutsAll (time_texts t) out.old at result out.new }
 {
-    let e = text::decimal(out, at, t.hour as u64);
+    let e = text::decimal(out, at, u64::from(t.hour));
     let f = lent::byte(out, e, b' ');
-    let g = text::decimal(out, f, t.minute as u64);
+    let g = text::decimal(out, f, u64::from(t.minute));
     let h = lent::byte(out, g, b' ');
-    text::decimal(out, h, t.second as u64)
+    text::decimal(out, h, u64::from(t.second))
 }
 
 // An offset, or that there is none.
@@ -103,7 +100,7 @@ fn number(out: &mut [u8], at: usize, name: &[u8], n: u8) -> usize
     ensures { PutsAll (name.now ∷ decimal_of n ∷ []) out.old at result out.new }
 {
     let e = lent::word(out, at, name);
-    text::decimal(out, e, n as u64)
+    text::decimal(out, e, u64::from(n))
 }
 
 // The weekdays, day, month and year of a clock.
@@ -121,16 +118,13 @@ fn days(out: &mut [u8], at: usize, c: Clock) -> usize
 pub fn clock(out: &mut [u8], at: usize, s: &[u8], t: &[u8]) -> usize
     ensures { PutsAll (clock_texts (read_clock (flag_in s.now) t.now)) out.old at result out.new }
 {
-    let read = clock_text::read(flag_in(s), t);
-    match read {
-        Reading::Refused(k) => text::decimal(out, at, k as u64),
-        Reading::Accepted(c) => {
-            let moment = c.time;
-            let o = c.offset;
+    match clock_text::read(flag_in(s), t) {
+        Err(k) => text::decimal(out, at, u64::from(k.number())),
+        Ok(c) => {
             let e = lent::word(out, at, b"0 time ");
-            let f = time(out, e, moment);
+            let f = time(out, e, c.time);
             let g = days(out, f, c);
-            offset(out, g, o)
+            offset(out, g, c.offset)
         }
     }
 }
@@ -139,11 +133,10 @@ pub fn clock(out: &mut [u8], at: usize, s: &[u8], t: &[u8]) -> usize
 pub fn clock_runs(out: &mut [u8], at: usize, s: &[u8], t: &[u8]) -> usize
     ensures { PutsAll (day_texts (runs_at (flag_in s.now) (given_in s.now) t.now)) out.old at result out.new }
 {
-    let run = clock_day::runs(flag_in(s), given_in(s), t);
-    match run {
-        Run::Refused(k) => text::decimal(out, at, k as u64),
-        Run::Idle => lent::word(out, at, b"0 idle"),
-        Run::At(z) => {
+    match clock_day::runs(flag_in(s), given_in(s), t) {
+        Err(k) => text::decimal(out, at, u64::from(k.number())),
+        Ok(None) => lent::word(out, at, b"0 idle"),
+        Ok(Some(z)) => {
             let e = lent::word(out, at, b"0 second ");
             signed::decimal(out, e, z)
         }

@@ -1,38 +1,36 @@
 -- The answers by value, as the code has them, and that they say the texts of docs/BENCH.md.
-use Rattle.std.specs.Prelude.{ℕ, ◌≡◌, refl, List, [], ◌∷◌, ◌++◌}
+use Rattle.std.specs.Prelude.{ℕ, ◌≡◌, refl, List, [], ◌∷◌, ◌++◌, Option, Some, None, Result, Ok, Err}
 use Rattle.std.proofs.Common.{sym, ap, ◌∙◌, append-nil}
+use Rattle.refusal.specs.Refusals.{number_of}
+use Rattle.refusal.specs.declared.Refusal.{Refusal}
 use Rattle.words.specs.Words.{before, word_in, text}
 use Rattle.text.specs.Text.{decimal_of}
 use Rattle.bench_say.specs.Pieces.{pieces_texts, piece_texts, three, byted}
 use Rattle.bench_say.specs.declared.Pieces.{Pieces}
-use Rattle.frame.specs.declared.Wrote.{Wrote}
-use Rattle.frame.specs.declared.Wrote.TheVariants.{Count, Refused as wrote·Refused}
-use Rattle.reply.specs.declared.Reading.{Reading as Reply-reading}
-use Rattle.reply.specs.declared.Reading.TheVariants.{Accepted as reply·Accepted, Refused as reply·Refused}
+use Rattle.reply.specs.declared.Reply.{Reply}
 use Rattle.reply.specs.declared.Code.{Code}
-use Rattle.reply.specs.declared.Code.TheVariants.{Named, Number, Absent, Refused as code·Refused}
 use Rattle.event_type.specs.declared.EventType.{EventType}
 use Rattle.event_type.specs.declared.EventType.TheVariants.{ButtonPress, ButtonHold, AbsoluteInput, LevelChange, GroupLevelChange, SceneChange, IsOccupied, IsUnoccupied, ColourChanged, ProfileChanged, Other}
-use Rattle.event_type.specs.declared.Instance.{Instance}
-use Rattle.event_type.specs.declared.Instance.TheVariants.{Number as instance·Number, Absent as instance·Absent}
-use Rattle.event.specs.declared.Reading.{Reading as Event-reading}
-use Rattle.event.specs.declared.Reading.TheVariants.{Accepted as event·Accepted, Refused as event·Refused}
+use Rattle.event.specs.declared.Event.{Event}
 use Rattle.bench_datagrams.specs.declared.Read.{Read}
 use Rattle.bench_datagrams.specs.declared.Read.TheVariants.{Reply as a·Reply, Code as a·Code, Event as an·Event, Kind as a·Kind}
-use Rattle.bench_datagrams.specs.Datagrams.{reply_texts, code_texts, kind_texts, instance_texts, event_texts, wrote_texts, read_texts}
+use Rattle.bench_datagrams.specs.Datagrams.{reply_texts, named_texts, code_texts, kind_texts, instance_texts, event_texts, wrote_texts, read_texts}
 
 abbrev pub names : List ℕ
 names = text " type 0 BUTTON_PRESS, type 1 BUTTON_HOLD, type 2 ABSOLUTE_INPUT, type 3 LEVEL_CHANGE, type 4 GROUP_LEVEL_CHANGE, type 5 SCENE_CHANGE, type 6 IS_OCCUPIED, type 7 IS_UNOCCUPIED, type 8 COLOUR_CHANGED, type 9 PROFILE_CHANGED, type , OTHER,0 type , sequence , n ,0 code , name ,0 absent, target , instance , instance absent,0 count ,0"
 
-abbrev pub reply_pieces : Reply-reading → Pieces
-reply_pieces (reply·Accepted a) = byted 0xC3 0 0xD2 a.sequence 0xE2 a.n a.kind
-reply_pieces (reply·Refused k) = three 4 k 0 0 0 0
+abbrev pub reply_pieces : Result Reply Refusal → Pieces
+reply_pieces (Ok a) = byted 0xC3 0 0xD2 a.sequence 0xE2 a.n a.kind
+reply_pieces (Err k) = three 4 (number_of k) 0 0 0 0
 
-abbrev pub code_pieces : Code → Pieces
-code_pieces (Named c n) = byted 0xF3 0 0x102 n 0 0 c
-code_pieces (Number c) = byted 0xF3 0 0 0 0 0 c
-code_pieces Absent = three 0x111 0 0 0 0 0
-code_pieces (code·Refused k) = three 4 k 0 0 0 0
+abbrev pub named_pieces : ℕ → Option ℕ → Pieces
+named_pieces c (Some n) = byted 0xF3 0 0x102 n 0 0 c
+named_pieces c None = byted 0xF3 0 0 0 0 0 c
+
+abbrev pub code_pieces : Result (Option Code) Refusal → Pieces
+code_pieces (Ok (Some c)) = named_pieces c.code c.name
+code_pieces (Ok None) = three 0x111 0 0 0 0 0
+code_pieces (Err k) = three 4 (number_of k) 0 0 0 0
 
 abbrev pub kind_pieces : ℕ → ℕ → EventType → Pieces
 kind_pieces a x ButtonPress = three a x 0x01 0 0 0
@@ -47,17 +45,17 @@ kind_pieces a x ColourChanged = three a x 0x81 0 0 0
 kind_pieces a x ProfileChanged = three a x 0x91 0 0 0
 kind_pieces a x (Other n) = three a x 0xA2 n 0xB1 0
 
-abbrev pub instance_pieces : ℕ → Instance → Pieces
-instance_pieces n (instance·Number k) = three 0xE2 n 0x132 k 0 0
-instance_pieces n instance·Absent = three 0xE2 n 0x141 0 0 0
+abbrev pub instance_pieces : ℕ → Option ℕ → Pieces
+instance_pieces n (Some k) = three 0xE2 n 0x132 k 0 0
+instance_pieces n None = three 0xE2 n 0x141 0 0 0
 
-abbrev pub refused_pieces : Event-reading → Pieces
-refused_pieces (event·Accepted v) = three 0 0 0 0 0 0
-refused_pieces (event·Refused k) = three 4 k 0 0 0 0
+abbrev pub refused_pieces : Result Event Refusal → Pieces
+refused_pieces (Ok v) = three 0 0 0 0 0 0
+refused_pieces (Err k) = three 4 (number_of k) 0 0 0 0
 
-abbrev pub count_pieces : Wrote → Pieces
-count_pieces (Count n) = three 0x152 n 0 0 0 0
-count_pieces (wrote·Refused k) = three 4 k 0 0 0 0
+abbrev pub count_pieces : Result ℕ Refusal → Pieces
+count_pieces (Ok n) = three 0x152 n 0 0 0 0
+count_pieces (Err k) = three 4 (number_of k) 0 0 0 0
 
 abbrev pub read_pieces : Read → Pieces
 read_pieces (a·Reply d) = reply_pieces d
@@ -66,21 +64,25 @@ read_pieces (an·Event d) = refused_pieces d
 read_pieces (a·Kind t) = kind_pieces 0x161 0 t
 
 -- an event that is accepted; of one that is refused nothing
-abbrev pub event_rest : Event-reading → List (List ℕ)
-event_rest (event·Accepted v) = event_texts (event·Accepted v)
-event_rest (event·Refused k) = []
+abbrev pub event_rest : Result Event Refusal → List (List ℕ)
+event_rest (Ok v) = event_texts (Ok v)
+event_rest (Err k) = []
 
-reply_said : (d : Reply-reading) → pieces_texts names (reply_pieces d) ≡ reply_texts d
+reply_said : (d : Result Reply Refusal) → pieces_texts names (reply_pieces d) ≡ reply_texts d
 unfolding before word_in
-reply_said (reply·Accepted a) = refl
-reply_said (reply·Refused k) = refl
+reply_said (Ok a) = refl
+reply_said (Err k) = refl
 
-code_said : (c : Code) → pieces_texts names (code_pieces c) ≡ code_texts c
+named_said : (c : ℕ) (n : Option ℕ) → pieces_texts names (named_pieces c n) ≡ named_texts c n
 unfolding before word_in
-code_said (Named c n) = refl
-code_said (Number c) = refl
-code_said Absent = refl
-code_said (code·Refused k) = refl
+named_said c (Some n) = refl
+named_said c None = refl
+
+code_said : (c : Result (Option Code) Refusal) → pieces_texts names (code_pieces c) ≡ code_texts c
+unfolding before word_in
+code_said (Ok (Some c)) = named_said c.code c.name
+code_said (Ok None) = refl
+code_said (Err k) = refl
 
 kind_said : (a x : ℕ) (t : EventType) → pieces_texts names (kind_pieces a x t) ≡ piece_texts names a x 0 ++ kind_texts t
 unfolding before word_in
@@ -96,15 +98,15 @@ kind_said a x ColourChanged = refl
 kind_said a x ProfileChanged = refl
 kind_said a x (Other n) = refl
 
-instance_said : (n : ℕ) (i : Instance) → pieces_texts names (instance_pieces n i) ≡ text " n " ∷ decimal_of n ∷ instance_texts i
+instance_said : (n : ℕ) (i : Option ℕ) → pieces_texts names (instance_pieces n i) ≡ text " n " ∷ decimal_of n ∷ instance_texts i
 unfolding before word_in
-instance_said n (instance·Number k) = refl
-instance_said n instance·Absent = refl
+instance_said n (Some k) = refl
+instance_said n None = refl
 
-count_said : (w : Wrote) → pieces_texts names (count_pieces w) ≡ wrote_texts w
+count_said : (w : Result ℕ Refusal) → pieces_texts names (count_pieces w) ≡ wrote_texts w
 unfolding before word_in
-count_said (Count n) = refl
-count_said (wrote·Refused k) = refl
+count_said (Ok n) = refl
+count_said (Err k) = refl
 
 target_said : (n : ℕ) → piece_texts names 0x122 n 0 ≡ text " target " ∷ decimal_of n ∷ []
 unfolding before word_in
@@ -118,10 +120,10 @@ zero_said = refl
 pub kind_of_lem : (n : ℕ) (t : EventType) {p : Pieces} → p ≡ kind_pieces 0x122 n t → pieces_texts names p ≡ text " target " ∷ decimal_of n ∷ kind_texts t
 kind_of_lem n t {p} e = ap (pieces_texts names) e ∙ kind_said 0x122 n t ∙ ap (λ (y : List (List ℕ)). y ++ kind_texts t) (target_said n)
 
-pub instance_of_lem : (n : ℕ) (i : Instance) {p : Pieces} → p ≡ instance_pieces n i → pieces_texts names p ≡ text " n " ∷ decimal_of n ∷ instance_texts i
+pub instance_of_lem : (n : ℕ) (i : Option ℕ) {p : Pieces} → p ≡ instance_pieces n i → pieces_texts names p ≡ text " n " ∷ decimal_of n ∷ instance_texts i
 instance_of_lem n i {p} e = ap (pieces_texts names) e ∙ instance_said n i
 
-pub count_of : (w : Wrote) {p : Pieces} → p ≡ count_pieces w → pieces_texts names p ≡ wrote_texts w
+pub count_of : (w : Result ℕ Refusal) {p : Pieces} → p ≡ count_pieces w → pieces_texts names p ≡ wrote_texts w
 count_of w {p} e = ap (pieces_texts names) e ∙ count_said w
 
 -- what stands behind an answer's pieces: an event
@@ -131,9 +133,9 @@ rest_of (a·Code c) = []
 rest_of (an·Event d) = event_rest d
 rest_of (a·Kind t) = []
 
-event_said : (d : Event-reading) → pieces_texts names (refused_pieces d) ++ event_rest d ≡ event_texts d
-event_said (event·Accepted v) = refl
-event_said (event·Refused k) = refl
+event_said : (d : Result Event Refusal) → pieces_texts names (refused_pieces d) ++ event_rest d ≡ event_texts d
+event_said (Ok v) = refl
+event_said (Err k) = refl
 
 read_said : (x : Read) → pieces_texts names (read_pieces x) ++ rest_of x ≡ read_texts x
 read_said (a·Reply d) = append-nil (pieces_texts names (reply_pieces d)) ∙ reply_said d

@@ -9,16 +9,17 @@ ghost use Rattle.bench_datagrams.specs.Datagrams.{buffer_texts, read_texts};
 ghost use Rattle.bench_datagrams.specs.Pieces.{names, reply_pieces, code_pieces, kind_pieces, instance_pieces, refused_pieces, read_pieces, event_rest, count_pieces};
 
 use bench_say::Pieces;
-use event_type::{EventType, Instance};
-use frame::Wrote;
-use reply::Code;
+use event::Event;
+use event_type::EventType;
+use refusal::Refusal;
+use reply::{Code, Reply};
 
 // What a call that reads a reply, an event or a part of one answers.
-#[derive(Clone, Copy)]
+#[derive(Clone, Copy, Debug, PartialEq, Eq)]
 pub enum Read {
-    Reply(reply::Reading),
-    Code(Code),
-    Event(event::Reading),
+    Reply(Result<Reply, Refusal>),
+    Code(Result<Option<Code>, Refusal>),
+    Event(Result<Event, Refusal>),
     Kind(EventType),
 }
 
@@ -39,32 +40,26 @@ type 9 PROFILE_CHANGED, type , OTHER,0 type , sequence , n ,0 code , name ,\
 }
 
 // What reading a reply datagram answers.
-fn reply(d: reply::Reading) -> Pieces
+fn reply(d: Result<Reply, Refusal>) -> Pieces
     ensures { result ≡ reply_pieces d }
 {
     match d {
-        reply::Reading::Accepted(a) => Pieces(
-            0xC3,
-            0,
-            0xD2,
-            a.sequence as u64,
-            0xE2,
-            a.n as u64,
-            a.kind,
-        ),
-        reply::Reading::Refused(k) => Pieces(4, k as u64, 0, 0, 0, 0, 0),
+        Ok(a) => Pieces(0xC3, 0, 0xD2, a.sequence as u64, 0xE2, a.n as u64, a.kind),
+        Err(k) => Pieces(4, k.number() as u64, 0, 0, 0, 0, 0),
     }
 }
 
 // The error code of a reply.
-fn code(c: Code) -> Pieces
+fn code(c: Result<Option<Code>, Refusal>) -> Pieces
     ensures { result ≡ code_pieces c }
 {
     match c {
-        Code::Named { code: number, name } => Pieces(0xF3, 0, 0x102, name as u64, 0, 0, number),
-        Code::Number(number) => Pieces(0xF3, 0, 0, 0, 0, 0, number),
-        Code::Absent => Pieces(0x111, 0, 0, 0, 0, 0, 0),
-        Code::Refused(k) => Pieces(4, k as u64, 0, 0, 0, 0, 0),
+        Ok(Some(c)) => match c.name {
+            Some(n) => Pieces(0xF3, 0, 0x102, n as u64, 0, 0, c.code),
+            None => Pieces(0xF3, 0, 0, 0, 0, 0, c.code),
+        },
+        Ok(None) => Pieces(0x111, 0, 0, 0, 0, 0, 0),
+        Err(k) => Pieces(4, k.number() as u64, 0, 0, 0, 0, 0),
     }
 }
 
@@ -88,54 +83,58 @@ fn kind(a: usize, x: u64, t: EventType) -> Pieces
 }
 
 // How many bytes of data an event has, and its instance.
-fn instance(n: usize, i: Instance) -> Pieces
+fn instance(n: usize, i: Option<u8>) -> Pieces
     ensures { result ≡ instance_pieces n i }
 {
     match i {
-        Instance::Number(k) => Pieces(0xE2, n as u64, 0x132, k as u64, 0, 0, 0),
-        Instance::Absent => Pieces(0xE2, n as u64, 0x141, 0, 0, 0, 0),
+        Some(k) => Pieces(0xE2, n as u64, 0x132, k as u64, 0, 0, 0),
+        None => Pieces(0xE2, n as u64, 0x141, 0, 0, 0, 0),
     }
 }
 
 // The refusal of an event datagram; of one that is accepted nothing.
-fn refused(d: event::Reading) -> Pieces
+fn refused(d: Result<Event, Refusal>) -> Pieces
     ensures { result ≡ refused_pieces d }
 {
     match d {
-        event::Reading::Accepted(_) => Pieces(0, 0, 0, 0, 0, 0, 0),
-        event::Reading::Refused(k) => Pieces(4, k as u64, 0, 0, 0, 0, 0),
+        Ok(_) => Pieces(0, 0, 0, 0, 0, 0, 0),
+        Err(k) => Pieces(4, k.number() as u64, 0, 0, 0, 0, 0),
     }
 }
 
 // An event datagram that is accepted.
-fn event(out: &mut [u8], at: usize, d: event::Reading) -> usize
+fn event(out: &mut [u8], at: usize, d: Result<Event, Refusal>) -> usize
     ensures { PutsAll (event_rest d) out.old at result out.new }
 {
     match d {
-        event::Reading::Accepted(v) => {
+        Ok(v) => {
             let mac = v.mac;
-            let t = v.kind;
-            let i = v.instance;
             let b = [mac.0, mac.1, mac.2, mac.3, mac.4, mac.5];
             let e = bench_say::run(out, at, b"0 mac", &b);
-            let f = put(out, e, kind(0x122, v.target as u64, t));
-            put(out, f, instance(v.n, i))
+            let f = put(out, e, kind(0x122, v.target as u64, v.kind));
+            put(out, f, instance(v.n, v.instance))
         }
-        event::Reading::Refused(_) => at,
+        Err(_) => at,
     }
 }
 
-fn count(w: Wrote) -> Pieces
+fn count(w: Result<usize, Refusal>) -> Pieces
     ensures { result ≡ count_pieces w }
 {
     match w {
-        Wrote::Count(n) => Pieces(0x152, n as u64, 0, 0, 0, 0, 0),
-        Wrote::Refused(k) => Pieces(4, k as u64, 0, 0, 0, 0, 0),
+        Ok(n) => Pieces(0x152, n as u64, 0, 0, 0, 0, 0),
+        Err(k) => Pieces(4, k.number() as u64, 0, 0, 0, 0, 0),
     }
 }
 
 // What a writer answered, and the buffer that was lent to it before and after.
-pub fn wrote(out: &mut [u8], at: usize, w: Wrote, before: &[u8], after: &[u8]) -> usize
+pub fn wrote(
+    out: &mut [u8],
+    at: usize,
+    w: Result<usize, Refusal>,
+    before: &[u8],
+    after: &[u8],
+) -> usize
     ensures { PutsAll (buffer_texts w before.now after.now) out.old at result out.new }
 {
     let e = put(out, at, count(w));

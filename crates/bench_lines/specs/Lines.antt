@@ -1,18 +1,15 @@
 -- docs/BENCH.md, "Lines": a reader as it is handed in, and the answers, case by case.
-use Rattle.std.specs.Prelude.{ℕ, List, [], ◌∷◌, ltb}
+use Rattle.std.specs.Prelude.{ℕ, List, [], ◌∷◌, ltb, Option, Some, None}
 use Rattle.refusal.specs.Test.{pick}
 use Rattle.text.specs.Text.{decimal_of}
 use Rattle.bench_words.specs.Words.{front_of, part_of}
 use Rattle.words.specs.Words.{text}
 use Rattle.bench_say.specs.Said.{run_of}
 use Rattle.reader.specs.declared.Held.{Held}
-use Rattle.reader.specs.declared.Got.{Got}
-use Rattle.reader.specs.declared.Got.TheVariants.{Nothing, Item as got·Item}
+use Rattle.reader.specs.declared.Item.{Item}
 use Rattle.reader.specs.declared.Given.{Given}
-use Rattle.line.specs.declared.At.{At}
-use Rattle.line.specs.declared.At.TheVariants.{Nothing as at·Nothing, Item as at·Item}
+use Rattle.line.specs.declared.Item.{Item as Standing}
 use Rattle.stream.specs.declared.Step.{Step}
-use Rattle.stream.specs.declared.Step.TheVariants.{More, Item}
 
 -- "how many bytes it claims to hold / the bytes; 00 behind them"
 abbrev pub handed_reader : ℕ → List ℕ → Held
@@ -23,12 +20,13 @@ abbrev pub done_texts : List (List ℕ)
 done_texts = text "0" ∷ []
 
 -- "`item N count N bytes B B ..`", or a word
-abbrev pub got_texts : List ℕ → Got → ℕ → List ℕ → List (List ℕ)
-got_texts none Nothing count bytes = none ∷ []
-got_texts none (got·Item k) count bytes = text " item " ∷ decimal_of k ∷ text " count " ∷ decimal_of count ∷ text " bytes" ∷ run_of (part_of bytes 0 count)
+abbrev pub got_texts : List ℕ → Option Item → List (List ℕ)
+got_texts none None = none ∷ []
+got_texts none (Some i) =
+    text " item " ∷ decimal_of i.number ∷ text " count " ∷ decimal_of i.count ∷ text " bytes" ∷ run_of (part_of i.bytes 0 i.count)
 
 abbrev pub given_texts : List ℕ → Given → List (List ℕ)
-given_texts none f = got_texts none f.got f.count f.bytes
+given_texts none f = got_texts none f.item
 
 -- "`taken N`", and the item or `nothing`
 abbrev pub fed_texts : Given → List (List ℕ)
@@ -43,11 +41,11 @@ abbrev pub held_texts : Held → List (List ℕ)
 held_texts h = text "0 held " ∷ decimal_of h.len ∷ text " bytes" ∷ run_of (part_of h.bytes 0 (pick (ltb h.len 67) h.len 67))
 
 -- "`item N count N by N` (settled by the first N bytes), or `more`"
-abbrev pub step_texts : Step → List (List ℕ)
-step_texts More = text "0 more" ∷ []
-step_texts (Item k m d) = text "0 item " ∷ decimal_of k ∷ text " count " ∷ decimal_of m ∷ text " by " ∷ decimal_of d ∷ []
+abbrev pub step_texts : Option Step → List (List ℕ)
+step_texts None = text "0 more" ∷ []
+step_texts (Some x) = text "0 item " ∷ decimal_of x.number ∷ text " count " ∷ decimal_of x.size ∷ text " by " ∷ decimal_of x.settled ∷ []
 
 -- "`item N count N`, or `nothing`"
-abbrev pub item_texts : At → List (List ℕ)
-item_texts at·Nothing = text "0 nothing" ∷ []
-item_texts (at·Item k m) = text "0 item " ∷ decimal_of k ∷ text " count " ∷ decimal_of m ∷ []
+abbrev pub item_texts : Option Standing → List (List ℕ)
+item_texts None = text "0 nothing" ∷ []
+item_texts (Some x) = text "0 item " ∷ decimal_of x.number ∷ text " count " ∷ decimal_of x.size ∷ []

@@ -1,5 +1,5 @@
 -- The answers by value, as the code has them, and that they say the texts of docs/BENCH.md.
-use Rattle.std.specs.Prelude.{ℕ, ◌≡◌, refl, List, [], ◌∷◌, ◌++◌, replicate, eqb, ltb}
+use Rattle.std.specs.Prelude.{ℕ, ◌≡◌, refl, List, [], ◌∷◌, ◌++◌, replicate, eqb, ltb, Option, Some, None}
 use Rattle.std.proofs.Common.{ap, ◌∙◌}
 use Rattle.refusal.specs.Test.{pick}
 use Rattle.words.specs.Words.{before, word_in, text}
@@ -9,13 +9,10 @@ use Rattle.bench_say.specs.Said.{run_of}
 use Rattle.bench_say.specs.Pieces.{pieces_texts, three}
 use Rattle.bench_say.specs.declared.Pieces.{Pieces}
 use Rattle.reader.specs.declared.Held.{Held}
-use Rattle.reader.specs.declared.Got.{Got}
-use Rattle.reader.specs.declared.Got.TheVariants.{Nothing, Item as got·Item}
+use Rattle.reader.specs.declared.Item.{Item}
 use Rattle.reader.specs.declared.Given.{Given}
-use Rattle.line.specs.declared.At.{At}
-use Rattle.line.specs.declared.At.TheVariants.{Nothing as at·Nothing, Item as at·Item}
+use Rattle.line.specs.declared.Item.{Item as Standing}
 use Rattle.stream.specs.declared.Step.{Step}
-use Rattle.stream.specs.declared.Step.TheVariants.{More, Item}
 use Rattle.bench_lines.specs.Lines.{done_texts, got_texts, fed_texts, closed_texts, held_texts, step_texts, item_texts}
 use Rattle.bench_lines.specs.declared.Shown.{Shown}
 
@@ -39,12 +36,12 @@ pub record Says (x : Shown) (ts : List (List ℕ)) : Type 0 where
 abbrev pub plain_shown : Pieces → Shown
 plain_shown p = record { pieces = p; bytes = replicate 68 0; count = 0; run = 0 }
 
-abbrev pub got_shown : ℕ → ℕ → Got → ℕ → List ℕ → ℕ → Shown
-got_shown a x Nothing count bytes none = record { pieces = three a x none 0 0 0; bytes = bytes; count = count; run = 0 }
-got_shown a x (got·Item k) count bytes none = record { pieces = three a x 0x42 k 0x52 count; bytes = bytes; count = count; run = 1 }
+abbrev pub got_shown : ℕ → ℕ → Option Item → ℕ → Shown
+got_shown a x None none = plain_shown (three a x none 0 0 0)
+got_shown a x (Some i) none = record { pieces = three a x 0x42 i.number 0x52 i.count; bytes = i.bytes; count = i.count; run = 1 }
 
 abbrev pub given_shown : ℕ → ℕ → Given → ℕ → Shown
-given_shown a x f none = got_shown a x f.got f.count f.bytes none
+given_shown a x f none = got_shown a x f.item none
 
 abbrev pub fed_shown : Given → Shown
 fed_shown f = given_shown 0x12 f.taken f 0x21
@@ -55,13 +52,13 @@ closed_shown f = given_shown 0x01 0 f 0x31
 abbrev pub held_shown : Held → Shown
 held_shown h = record { pieces = three 0x62 h.len 0 0 0 0; bytes = replicate 68 0; count = pick (ltb h.len 67) h.len 67; run = 2 }
 
-abbrev pub step_shown : Step → Shown
-step_shown More = plain_shown (three 0x71 0 0 0 0 0)
-step_shown (Item k m d) = plain_shown (three 0x82 k 0x52 m 0x92 d)
+abbrev pub step_shown : Option Step → Shown
+step_shown None = plain_shown (three 0x71 0 0 0 0 0)
+step_shown (Some x) = plain_shown (three 0x82 x.number 0x52 x.size 0x92 x.settled)
 
-abbrev pub item_shown : At → Shown
-item_shown at·Nothing = plain_shown (three 0xA1 0 0 0 0 0)
-item_shown (at·Item k m) = plain_shown (three 0x82 k 0x52 m 0 0)
+abbrev pub item_shown : Option Standing → Shown
+item_shown None = plain_shown (three 0xA1 0 0 0 0 0)
+item_shown (Some x) = plain_shown (three 0x82 x.number 0x52 x.size 0 0)
 
 pub done_said : (h : Held) → shown_texts (plain_shown (three 0x01 0 0 0 0 0)) h ≡ done_texts
 unfolding before word_in
@@ -69,33 +66,33 @@ done_said h = refl
 
 pub fed_said_lem : (f : Given) (h : Held) → shown_texts (fed_shown f) h ≡ fed_texts f
 unfolding before word_in
-fed_said_lem f h = go f.got
+fed_said_lem f h = go f.item
   where
-    go : (g : Got) → shown_texts (got_shown 0x12 f.taken g f.count f.bytes 0x21) h ≡ text "0 taken " ∷ decimal_of f.taken ∷ got_texts (text " nothing") g f.count f.bytes
-    go Nothing = refl
-    go (got·Item k) = refl
+    go : (g : Option Item) → shown_texts (got_shown 0x12 f.taken g 0x21) h ≡ text "0 taken " ∷ decimal_of f.taken ∷ got_texts (text " nothing") g
+    go None = refl
+    go (Some i) = refl
 
 pub closed_said_lem : (f : Given) (h : Held) → shown_texts (closed_shown f) h ≡ closed_texts f
 unfolding before word_in
-closed_said_lem f h = go f.got
+closed_said_lem f h = go f.item
   where
-    go : (g : Got) → shown_texts (got_shown 0x01 0 g f.count f.bytes 0x31) h ≡ text "0" ∷ got_texts (text " empty") g f.count f.bytes
-    go Nothing = refl
-    go (got·Item k) = refl
+    go : (g : Option Item) → shown_texts (got_shown 0x01 0 g 0x31) h ≡ text "0" ∷ got_texts (text " empty") g
+    go None = refl
+    go (Some i) = refl
 
 pub held_said : (h : Held) → shown_texts (held_shown h) h ≡ held_texts h
 unfolding before word_in
 held_said h = refl
 
-pub step_said : (s : Step) (h : Held) → shown_texts (step_shown s) h ≡ step_texts s
+pub step_said : (s : Option Step) (h : Held) → shown_texts (step_shown s) h ≡ step_texts s
 unfolding before word_in
-step_said More h = refl
-step_said (Item k m d) h = refl
+step_said None h = refl
+step_said (Some x) h = refl
 
-pub item_said : (a : At) (h : Held) → shown_texts (item_shown a) h ≡ item_texts a
+pub item_said : (a : Option Standing) (h : Held) → shown_texts (item_shown a) h ≡ item_texts a
 unfolding before word_in
-item_said at·Nothing h = refl
-item_said (at·Item k m) h = refl
+item_said None h = refl
+item_said (Some x) h = refl
 
 pub held_shown_lem : (h : Held) {x : Shown} → x ≡ held_shown h → (x ≡ held_shown h) × (shown_texts x h ≡ held_texts h)
 held_shown_lem h {x} e = (e, ap (λ (z : Shown). shown_texts z h) e ∙ held_said h)

@@ -9,8 +9,7 @@ ghost use Rattle.bench_lines.specs.Shown.{plain_shown, given_shown, fed_shown, c
 ghost use Rattle.bench_say.specs.Pieces.{three};
 
 use bench_say::Pieces;
-use line::At;
-use reader::{Given, Got, Held};
+use reader::{Given, Held};
 use stream::Step;
 
 // An answer by value: pieces, and behind them the first of some bytes, of those that stand here (where run is 1), of those that a reader
@@ -28,10 +27,8 @@ pub fn handed(len: usize, s: &[u8]) -> Held
     ensures { result ≡ handed_reader len s.now }
 {
     let mut bytes = [0u8; 67];
-    let mut i: usize = 0;
-    while i < 67 {
+    for i in 0..67 {
         bytes[i] = bench_words::byte_at(s, i);
-        i += 1;
     }
     Held { bytes, len }
 }
@@ -60,22 +57,17 @@ pub fn done() -> Shown
 fn given(a: usize, x: u64, f: Given, none: usize) -> Shown
     ensures { result ≡ given_shown a x f none }
 {
-    let got = f.got;
-    let count = f.count;
-    let bytes = f.bytes;
-    match got {
-        Got::Nothing => Shown {
-            pieces: Pieces(a, x, none, 0, 0, 0, 0),
-            bytes,
-            count,
-            run: 0,
-        },
-        Got::Item(k) => Shown {
-            pieces: Pieces(a, x, 0x42, k as u64, 0x52, count as u64, 0),
-            bytes,
-            count,
-            run: 1,
-        },
+    match f.item {
+        None => plain(Pieces(a, x, none, 0, 0, 0, 0)),
+        Some(item) => {
+            let bytes = item.bytes;
+            Shown {
+                pieces: Pieces(a, x, 0x42, item.number as u64, 0x52, item.count as u64, 0),
+                bytes,
+                count: item.count,
+                run: 1,
+            }
+        }
     }
 }
 
@@ -111,24 +103,32 @@ pub fn show(h: Held) -> Shown
 }
 
 // What the rule says at a position.
-pub fn step(s: Step) -> Shown
+pub fn step(s: Option<Step>) -> Shown
     ensures value { result ≡ step_shown s }
     ensures says { Says result (step_texts s) }
 {
     match s {
-        Step::More => plain(Pieces(0x71, 0, 0, 0, 0, 0, 0)),
-        Step::Item(k, m, d) => plain(Pieces(0x82, k as u64, 0x52, m as u64, 0x92, d as u64, 0)),
+        None => plain(Pieces(0x71, 0, 0, 0, 0, 0, 0)),
+        Some(x) => plain(Pieces(
+            0x82,
+            x.number as u64,
+            0x52,
+            x.size as u64,
+            0x92,
+            x.settled as u64,
+            0,
+        )),
     }
 }
 
 // What stands at a position.
-pub fn item(a: At) -> Shown
+pub fn item(a: Option<line::Item>) -> Shown
     ensures value { result ≡ item_shown a }
     ensures says { Says result (item_texts a) }
 {
     match a {
-        At::Nothing => plain(Pieces(0xA1, 0, 0, 0, 0, 0, 0)),
-        At::Item(k, m) => plain(Pieces(0x82, k as u64, 0x52, m as u64, 0, 0, 0)),
+        None => plain(Pieces(0xA1, 0, 0, 0, 0, 0, 0)),
+        Some(x) => plain(Pieces(0x82, x.number as u64, 0x52, x.size as u64, 0, 0, 0)),
     }
 }
 

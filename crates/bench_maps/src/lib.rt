@@ -5,80 +5,52 @@
 ghost use Rattle.std.specs.Prelude.{◌≡◌};
 ghost use Rattle.lent.specs.All.{PutsAll};
 ghost use Rattle.bench_maps.specs.Maps.{data_texts};
-ghost use Rattle.bench_maps.specs.Pieces.{pieces16, pieces32, pieces64, lowest_pieces, filters_pieces, entry_pieces, data_pieces};
+ghost use Rattle.bench_maps.specs.Pieces.{numbered_pieces, filters_pieces, entry_pieces, data_pieces};
 
 use bench_say::Pieces;
-use filters::{Found, Listed};
-use maps::{Lowest, Map16, Map32, Map64};
+use filters::{Filter, Filters};
+use refusal::Refusal;
 
 // What a call of this family answers.
-#[derive(Drop)]
+#[derive(Clone, Copy, Debug, PartialEq, Eq)]
 pub enum Data {
     Number(u16),
-    Bits16(Map16),
-    Bits32(Map32),
-    Bits64(Map64),
+    Bits16(Result<u16, Refusal>),
+    Bits32(Result<u32, Refusal>),
+    Bits64(Result<u64, Refusal>),
     Count(u32),
-    Lowest(Lowest),
-    Filters(Listed),
-    Filter(Found),
+    Lowest(Result<u32, Refusal>),
+    Filters(Result<Filters, Refusal>),
+    Filter(Result<Filter, Refusal>),
 }
 
 // The kinds of pieces have the places of their names, which stand in `say` (crate bench_say).
-// A map as one number, of each width.
-fn bits16(m: Map16) -> Pieces
-    ensures { result ≡ pieces16 m }
+// A number behind the name of this kind, or a refusal.
+fn numbered(kind: usize, r: Result<u64, Refusal>) -> Pieces
+    ensures { result ≡ numbered_pieces kind r }
 {
-    match m {
-        Map16::Bits(n) => Pieces(0x12, n as u64, 0, 0, 0, 0, 0),
-        Map16::Refused(k) => Pieces(4, k as u64, 0, 0, 0, 0, 0),
-    }
-}
-
-fn bits32(m: Map32) -> Pieces
-    ensures { result ≡ pieces32 m }
-{
-    match m {
-        Map32::Bits(n) => Pieces(0x12, n as u64, 0, 0, 0, 0, 0),
-        Map32::Refused(k) => Pieces(4, k as u64, 0, 0, 0, 0, 0),
-    }
-}
-
-fn bits64(m: Map64) -> Pieces
-    ensures { result ≡ pieces64 m }
-{
-    match m {
-        Map64::Bits(n) => Pieces(0x12, n, 0, 0, 0, 0, 0),
-        Map64::Refused(k) => Pieces(4, k as u64, 0, 0, 0, 0, 0),
-    }
-}
-
-// The lowest bit of a map.
-fn lowest_bit(l: Lowest) -> Pieces
-    ensures { result ≡ lowest_pieces l }
-{
-    match l {
-        Lowest::Is(n) => Pieces(0x32, n as u64, 0, 0, 0, 0, 0),
-        Lowest::Refused(k) => Pieces(4, k as u64, 0, 0, 0, 0, 0),
+    match r {
+        Ok(n) => Pieces(kind, n, 0, 0, 0, 0, 0),
+        Err(k) => Pieces(4, k.number() as u64, 0, 0, 0, 0, 0),
     }
 }
 
 // The filters of a reply.
-fn filters(h: Listed) -> Pieces
+fn filters(h: Result<Filters, Refusal>) -> Pieces
     ensures { result ≡ filters_pieces h }
 {
     match h {
-        Listed::Filters(f) => Pieces(0x42, f.mode as u64, 0x52, f.entries as u64, 0, 0, 0),
-        Listed::Refused(k) => Pieces(4, k as u64, 0, 0, 0, 0, 0),
+        Ok(f) => Pieces(0x42, f.mode as u64, 0x52, f.entries as u64, 0, 0, 0),
+        Err(k) => Pieces(4, k.number() as u64, 0, 0, 0, 0, 0),
     }
 }
 
 // One entry.
-fn entry(f: Found) -> Pieces
+fn entry(f: Result<Filter, Refusal>) -> Pieces
     ensures { result ≡ entry_pieces f }
 {
     match f {
-        Found::Entry(n) => Pieces(
+        Ok(n) => Pieces(
             0x62,
             n.address as u64,
             0x72,
@@ -87,7 +59,7 @@ fn entry(f: Found) -> Pieces
             n.mask as u64,
             0,
         ),
-        Found::Refused(k) => Pieces(4, k as u64, 0, 0, 0, 0, 0),
+        Err(k) => Pieces(4, k.number() as u64, 0, 0, 0, 0, 0),
     }
 }
 
@@ -96,11 +68,11 @@ fn answer(d: Data) -> Pieces
 {
     match d {
         Data::Number(n) => Pieces(0x02, n as u64, 0, 0, 0, 0, 0),
-        Data::Bits16(m) => bits16(m),
-        Data::Bits32(m) => bits32(m),
-        Data::Bits64(m) => bits64(m),
+        Data::Bits16(m) => numbered(0x12, m.map(|n| n as u64)),
+        Data::Bits32(m) => numbered(0x12, m.map(|n| n as u64)),
+        Data::Bits64(m) => numbered(0x12, m),
         Data::Count(n) => Pieces(0x22, n as u64, 0, 0, 0, 0, 0),
-        Data::Lowest(l) => lowest_bit(l),
+        Data::Lowest(l) => numbered(0x32, l.map(|n| n as u64)),
         Data::Filters(f) => filters(f),
         Data::Filter(f) => entry(f),
     }

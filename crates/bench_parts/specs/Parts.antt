@@ -1,5 +1,7 @@
 -- docs/BENCH.md, "Parts of datagrams", and of "Lines" the call `quiet`: the answers, case by case.
-use Rattle.std.specs.Prelude.{ℕ, Bool, true, false, List, [], ◌∷◌}
+use Rattle.std.specs.Prelude.{ℕ, Bool, true, false, List, [], ◌∷◌, Option, Some, None, Result, Ok, Err}
+use Rattle.refusal.specs.Refusals.{number_of}
+use Rattle.refusal.specs.declared.Refusal.{Refusal}
 use Rattle.text.specs.Text.{decimal_of, hex_of}
 use Rattle.words.specs.Words.{text}
 use Rattle.command.specs.declared.Rule.{Rule}
@@ -7,14 +9,8 @@ use Rattle.command.specs.declared.Rule.TheVariants.{Group, Emit, Bare, Timers, G
 use Rattle.command.specs.declared.Shape.{Shape}
 use Rattle.command.specs.declared.Shape.TheVariants.{Unknown, Basic, Unicast, Colour}
 use Rattle.table.specs.declared.Entry.{Entry}
-use Rattle.error.specs.declared.Name.{Name}
-use Rattle.error.specs.declared.Name.TheVariants.{Number, Nothing}
-use Rattle.target.specs.declared.OnLine.{OnLine}
-use Rattle.target.specs.declared.OnLine.TheVariants.{At as line·At, Refused as line·Refused}
-use Rattle.target.specs.declared.Addressed.{Addressed}
-use Rattle.target.specs.declared.Addressed.TheVariants.{At as device·At, Refused as device·Refused}
-use Rattle.target.specs.declared.Numbered.{Numbered}
-use Rattle.target.specs.declared.Numbered.TheVariants.{Own, Refused as number·Refused}
+use Rattle.target.specs.declared.LineTarget.{LineTarget}
+use Rattle.target.specs.declared.Device.{Device}
 use Rattle.bench_parts.specs.declared.Fit.{Fit}
 use Rattle.bench_parts.specs.declared.Fit.TheVariants.{Fits, Outside, NoRule}
 use Rattle.bench_parts.specs.declared.Part.{Part}
@@ -69,24 +65,24 @@ abbrev pub entry_texts : Entry → List (List ℕ)
 entry_texts e = text "0 shape " ∷ decimal_of e.shape ∷ text " rule " ∷ decimal_of e.rule ∷ []
 
 -- "`name N` or `none`"
-abbrev pub name_texts : Name → List (List ℕ)
-name_texts (Number n) = text "0 name " ∷ decimal_of n ∷ []
-name_texts Nothing = text "0 none" ∷ []
+abbrev pub name_texts : Option ℕ → List (List ℕ)
+name_texts (Some n) = text "0 name " ∷ decimal_of n ∷ []
+name_texts None = text "0 none" ∷ []
 
 -- "`target N`"
-abbrev pub line_texts : OnLine → List (List ℕ)
-line_texts (line·At t) = text "0 target " ∷ decimal_of t.0 ∷ []
-line_texts (line·Refused k) = decimal_of k ∷ []
+abbrev pub line_texts : Result LineTarget Refusal → List (List ℕ)
+line_texts (Ok t) = text "0 target " ∷ decimal_of t.0 ∷ []
+line_texts (Err k) = decimal_of (number_of k) ∷ []
 
 -- "`device N`"
-abbrev pub device_texts : Addressed → List (List ℕ)
-device_texts (device·At d) = text "0 device " ∷ decimal_of d.0 ∷ []
-device_texts (device·Refused k) = decimal_of k ∷ []
+abbrev pub device_texts : Result Device Refusal → List (List ℕ)
+device_texts (Ok d) = text "0 device " ∷ decimal_of d.0 ∷ []
+device_texts (Err k) = decimal_of (number_of k) ∷ []
 
 -- "`number N`"
-abbrev pub number_texts : Numbered → List (List ℕ)
-number_texts (Own n) = text "0 number " ∷ decimal_of n ∷ []
-number_texts (number·Refused k) = decimal_of k ∷ []
+abbrev pub number_texts : Result ℕ Refusal → List (List ℕ)
+number_texts (Ok n) = text "0 number " ∷ decimal_of n ∷ []
+number_texts (Err k) = decimal_of (number_of k) ∷ []
 
 -- the answer of a call: `sum NN`, or as above
 abbrev pub part_texts : Part → List (List ℕ)

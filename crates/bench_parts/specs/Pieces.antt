@@ -1,6 +1,8 @@
 -- The answers by value, as the code has them, and that they say the texts of docs/BENCH.md.
-use Rattle.std.specs.Prelude.{ℕ, ◌≡◌, refl, Bool, true, false, List}
+use Rattle.std.specs.Prelude.{ℕ, ◌≡◌, refl, Bool, true, false, List, Option, Some, None, Result, Ok, Err}
 use Rattle.std.proofs.Common.{ap, ◌∙◌}
+use Rattle.refusal.specs.Refusals.{number_of}
+use Rattle.refusal.specs.declared.Refusal.{Refusal}
 use Rattle.words.specs.Words.{before, word_in, text}
 use Rattle.bench_say.specs.Pieces.{pieces_texts, three, byted}
 use Rattle.bench_say.specs.declared.Pieces.{Pieces}
@@ -9,14 +11,8 @@ use Rattle.command.specs.declared.Rule.TheVariants.{Group, Emit, Bare, Timers, G
 use Rattle.command.specs.declared.Shape.{Shape}
 use Rattle.command.specs.declared.Shape.TheVariants.{Unknown, Basic, Unicast, Colour}
 use Rattle.table.specs.declared.Entry.{Entry}
-use Rattle.error.specs.declared.Name.{Name}
-use Rattle.error.specs.declared.Name.TheVariants.{Number, Nothing}
-use Rattle.target.specs.declared.OnLine.{OnLine}
-use Rattle.target.specs.declared.OnLine.TheVariants.{At as line·At, Refused as line·Refused}
-use Rattle.target.specs.declared.Addressed.{Addressed}
-use Rattle.target.specs.declared.Addressed.TheVariants.{At as device·At, Refused as device·Refused}
-use Rattle.target.specs.declared.Numbered.{Numbered}
-use Rattle.target.specs.declared.Numbered.TheVariants.{Own, Refused as number·Refused}
+use Rattle.target.specs.declared.LineTarget.{LineTarget}
+use Rattle.target.specs.declared.Device.{Device}
 use Rattle.bench_parts.specs.declared.Fit.{Fit}
 use Rattle.bench_parts.specs.declared.Fit.TheVariants.{Fits, Outside, NoRule}
 use Rattle.bench_parts.specs.declared.Part.{Part}
@@ -69,21 +65,22 @@ quiet_kind false = 0x1E1
 abbrev pub entry_pieces : Entry → Pieces
 entry_pieces e = three 0x1F2 e.shape 0x202 e.rule 0 0
 
-abbrev pub name_pieces : Name → Pieces
-name_pieces (Number n) = three 0x162 n 0 0 0 0
-name_pieces Nothing = three 0x171 0 0 0 0 0
+abbrev pub name_pieces : Option ℕ → Pieces
+name_pieces (Some n) = three 0x162 n 0 0 0 0
+name_pieces None = three 0x171 0 0 0 0 0
 
-abbrev pub line_pieces : OnLine → Pieces
-line_pieces (line·At t) = three 0x182 t.0 0 0 0 0
-line_pieces (line·Refused k) = three 4 k 0 0 0 0
+-- a number behind the name of a kind, or a refusal
+abbrev pub numbered_pieces : ℕ → Result ℕ Refusal → Pieces
+numbered_pieces k (Ok n) = three k n 0 0 0 0
+numbered_pieces k (Err r) = three 4 (number_of r) 0 0 0 0
 
-abbrev pub device_pieces : Addressed → Pieces
-device_pieces (device·At d) = three 0x192 d.0 0 0 0 0
-device_pieces (device·Refused k) = three 4 k 0 0 0 0
+abbrev pub line_pieces : Result LineTarget Refusal → Pieces
+line_pieces (Ok t) = three 0x182 t.0 0 0 0 0
+line_pieces (Err k) = three 4 (number_of k) 0 0 0 0
 
-abbrev pub number_pieces : Numbered → Pieces
-number_pieces (Own n) = three 0x1A2 n 0 0 0 0
-number_pieces (number·Refused k) = three 4 k 0 0 0 0
+abbrev pub device_pieces : Result Device Refusal → Pieces
+device_pieces (Ok d) = three 0x192 d.0 0 0 0 0
+device_pieces (Err k) = three 4 (number_of k) 0 0 0 0
 
 abbrev pub part_pieces : Part → Pieces
 part_pieces (Sum b) = byted 0x03 0 0 0 0 0 b
@@ -96,7 +93,7 @@ part_pieces (a·Entry e) = entry_pieces e
 part_pieces (a·Name n) = name_pieces n
 part_pieces (a·OnLine t) = line_pieces t
 part_pieces (a·Device d) = device_pieces d
-part_pieces (a·Number n) = number_pieces n
+part_pieces (a·Number n) = numbered_pieces 0x1A2 n
 
 known_said : (k : Bool) → pieces_texts names (three (known_kind k) 0 0 0 0 0) ≡ known_texts k
 unfolding before word_in
@@ -148,25 +145,25 @@ entry_said : (e : Entry) → pieces_texts names (entry_pieces e) ≡ entry_texts
 unfolding before word_in
 entry_said e = refl
 
-name_said : (n : Name) → pieces_texts names (name_pieces n) ≡ name_texts n
+name_said : (n : Option ℕ) → pieces_texts names (name_pieces n) ≡ name_texts n
 unfolding before word_in
-name_said (Number n) = refl
-name_said Nothing = refl
+name_said (Some n) = refl
+name_said None = refl
 
-line_said : (t : OnLine) → pieces_texts names (line_pieces t) ≡ line_texts t
+line_said : (t : Result LineTarget Refusal) → pieces_texts names (line_pieces t) ≡ line_texts t
 unfolding before word_in
-line_said (line·At t) = refl
-line_said (line·Refused k) = refl
+line_said (Ok t) = refl
+line_said (Err k) = refl
 
-device_said : (d : Addressed) → pieces_texts names (device_pieces d) ≡ device_texts d
+device_said : (d : Result Device Refusal) → pieces_texts names (device_pieces d) ≡ device_texts d
 unfolding before word_in
-device_said (device·At d) = refl
-device_said (device·Refused k) = refl
+device_said (Ok d) = refl
+device_said (Err k) = refl
 
-number_said : (n : Numbered) → pieces_texts names (number_pieces n) ≡ number_texts n
+number_said : (n : Result ℕ Refusal) → pieces_texts names (numbered_pieces 0x1A2 n) ≡ number_texts n
 unfolding before word_in
-number_said (Own n) = refl
-number_said (number·Refused k) = refl
+number_said (Ok n) = refl
+number_said (Err k) = refl
 
 pub part_said : (p : Part) → pieces_texts names (part_pieces p) ≡ part_texts p
 unfolding before word_in

@@ -1,20 +1,20 @@
 // Parts of datagrams, and whether a run passes, as the bench's answers. docs/BENCH.md, "Parts of datagrams" and "Lines". It leans on crate bench_say, and on crates
-// command, table, error and target for what is said.
+// command, table and target for what is said.
 #![tactic(auto)]
 
 ghost use Rattle.std.specs.Prelude.{◌≡◌};
 ghost use Rattle.lent.specs.All.{PutsAll};
 ghost use Rattle.bench_parts.specs.Parts.{part_texts};
-ghost use Rattle.bench_parts.specs.Pieces.{known_kind, rule_kind, shape_kind, fit_kind, inside_kind, quiet_kind, entry_pieces, name_pieces, line_pieces, device_pieces, number_pieces, part_pieces};
+ghost use Rattle.bench_parts.specs.Pieces.{known_kind, rule_kind, shape_kind, fit_kind, inside_kind, quiet_kind, entry_pieces, name_pieces, numbered_pieces, part_pieces};
 
 use bench_say::Pieces;
 use command::{Rule, Shape};
-use error::Name;
+use refusal::Refusal;
 use table::Entry;
-use target::{Addressed, Numbered, OnLine};
+use target::{Device, LineTarget};
 
 // What is said of arguments: whether they fit, or that the command has no rule for them.
-#[derive(Drop)]
+#[derive(Clone, Copy, Debug, PartialEq, Eq)]
 pub enum Fit {
     Fits,
     Outside,
@@ -22,7 +22,7 @@ pub enum Fit {
 }
 
 // What a call of this family answers.
-#[derive(Drop)]
+#[derive(Clone, Copy, Debug, PartialEq, Eq)]
 pub enum Part {
     Sum(u8),
     Known(bool),
@@ -31,10 +31,10 @@ pub enum Part {
     Inside(bool),
     Quiet(bool),
     Entry(Entry),
-    Name(Name),
-    OnLine(OnLine),
-    Device(Addressed),
-    Number(Numbered),
+    Name(Option<u8>),
+    OnLine(Result<LineTarget, Refusal>),
+    Device(Result<Device, Refusal>),
+    Number(Result<u8, Refusal>),
 }
 
 // The kinds of its pieces are the places of their names, which stand in `say`, and what stands behind them (crate bench_say).
@@ -112,42 +112,22 @@ fn entry(e: Entry) -> Pieces
 }
 
 // The number of an error code's name.
-fn name(n: Name) -> Pieces
+fn name(n: Option<u8>) -> Pieces
     ensures { result ≡ name_pieces n }
 {
     match n {
-        Name::Number(k) => Pieces(0x162, k as u64, 0, 0, 0, 0, 0),
-        Name::Nothing => Pieces(0x171, 0, 0, 0, 0, 0, 0),
+        Some(k) => Pieces(0x162, k as u64, 0, 0, 0, 0, 0),
+        None => Pieces(0x171, 0, 0, 0, 0, 0, 0),
     }
 }
 
-// A group as a target on the line.
-fn on_line(t: OnLine) -> Pieces
-    ensures { result ≡ line_pieces t }
+// A number behind the name of this kind, or a refusal.
+fn numbered(kind: usize, r: Result<u8, Refusal>) -> Pieces
+    ensures { result ≡ numbered_pieces kind r }
 {
-    match t {
-        OnLine::At(target) => Pieces(0x182, target.0 as u64, 0, 0, 0, 0, 0),
-        OnLine::Refused(k) => Pieces(4, k as u64, 0, 0, 0, 0, 0),
-    }
-}
-
-// The address of a control device, by its own number.
-fn device(d: Addressed) -> Pieces
-    ensures { result ≡ device_pieces d }
-{
-    match d {
-        Addressed::At(address) => Pieces(0x192, address.0 as u64, 0, 0, 0, 0, 0),
-        Addressed::Refused(k) => Pieces(4, k as u64, 0, 0, 0, 0, 0),
-    }
-}
-
-// A control device's own number, by its address.
-fn number(n: Numbered) -> Pieces
-    ensures { result ≡ number_pieces n }
-{
-    match n {
-        Numbered::Own(own) => Pieces(0x1A2, own as u64, 0, 0, 0, 0, 0),
-        Numbered::Refused(k) => Pieces(4, k as u64, 0, 0, 0, 0, 0),
+    match r {
+        Ok(n) => Pieces(kind, n as u64, 0, 0, 0, 0, 0),
+        Err(k) => Pieces(4, k.number() as u64, 0, 0, 0, 0, 0),
     }
 }
 
@@ -163,9 +143,10 @@ fn answer(p: Part) -> Pieces
         Part::Quiet(yes) => Pieces(quiet(yes), 0, 0, 0, 0, 0, 0),
         Part::Entry(e) => entry(e),
         Part::Name(n) => name(n),
-        Part::OnLine(t) => on_line(t),
-        Part::Device(d) => device(d),
-        Part::Number(n) => number(n),
+        // A group as a target on the line, and the address and the own number of a control device.
+        Part::OnLine(t) => numbered(0x182, t.map(|t| t.0)),
+        Part::Device(d) => numbered(0x192, d.map(|d| d.0)),
+        Part::Number(n) => numbered(0x1A2, n),
     }
 }
 

@@ -3,10 +3,9 @@
 use Rattle.std.specs.Prelude.{ℕ, List, [], ◌∷◌}
 use Rattle.words.specs.Words.{text}
 use Rattle.text.specs.Text.{decimal_of}
-use Rattle.filter_plan.specs.declared.Verdict.{Verdict}
-use Rattle.filter_plan.specs.declared.Verdict.TheVariants.{Yes, Bad, Hidden}
+use Rattle.filter_plan.specs.Plan.{Told, told_yes, told_bad, told_hidden}
 
-abbrev pub verdict_texts : Verdict → List (List ℕ)
-verdict_texts Yes = text "0 yes" ∷ []
-verdict_texts (Bad k n) = decimal_of n ∷ text " request " ∷ decimal_of k ∷ []
-verdict_texts (Hidden j) = text "0 hidden " ∷ decimal_of j ∷ []
+abbrev pub verdict_texts : Told → List (List ℕ)
+verdict_texts told_yes = text "0 yes" ∷ []
+verdict_texts (told_bad k n) = decimal_of n ∷ text " request " ∷ decimal_of k ∷ []
+verdict_texts (told_hidden j) = text "0 hidden " ∷ decimal_of j ∷ []

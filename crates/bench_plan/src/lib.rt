@@ -3,20 +3,21 @@
 #![tactic(auto)]
 
 ghost use Rattle.lent.specs.All.{PutsAll};
+ghost use Rattle.filter_plan.specs.Said.{said_verdict};
 ghost use Rattle.bench_plan.specs.Told.{verdict_texts};
 
 use filter_plan::Verdict;
 
 // What the check of a plan answers: the one refusal with a field.
 pub fn say(out: &mut [u8], at: usize, v: Verdict) -> usize
-    ensures { PutsAll (verdict_texts v) out.old at result out.new }
+    ensures { PutsAll (verdict_texts (said_verdict v)) out.old at result out.new }
 {
     match v {
         Verdict::Yes => lent::word(out, at, b"0 yes"),
-        Verdict::Bad { request, number } => {
-            let e = text::decimal(out, at, number as u64);
+        Verdict::Bad(bad) => {
+            let e = text::decimal(out, at, u64::from(bad.refusal.number()));
             let f = lent::word(out, e, b" request ");
-            text::decimal(out, f, request as u64)
+            text::decimal(out, f, bad.request as u64)
         }
         Verdict::Hidden(j) => {
             let e = lent::word(out, at, b"0 hidden ");

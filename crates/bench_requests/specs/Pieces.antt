@@ -1,6 +1,8 @@
 -- The answers of this family by value, as the code has them, and that they say the texts of docs/BENCH.md.
-use Rattle.std.specs.Prelude.{ℕ, ◌≡◌, refl, Bool, true, false, List, [], ◌∷◌, ◌++◌}
+use Rattle.std.specs.Prelude.{ℕ, ◌≡◌, refl, Bool, true, false, List, [], ◌∷◌, ◌++◌, Result, Ok, Err}
 use Rattle.std.proofs.Common.{sym, ap, ap₂, ◌∙◌, append-nil}
+use Rattle.refusal.specs.Refusals.{number_of}
+use Rattle.refusal.specs.declared.Refusal.{Refusal}
 use Rattle.text.specs.Text.{decimal_of}
 use Rattle.words.specs.Words.{before, word_in, text}
 use Rattle.bench_say.specs.Pieces.{pieces_texts, piece_texts, three, byted}
@@ -11,8 +13,7 @@ use Rattle.colour.specs.declared.Colour.{Colour}
 use Rattle.colour.specs.declared.Colour.TheVariants.{Xy, Tc, Rgbwaf}
 use Rattle.meaning.specs.declared.Meaning.{Meaning}
 use Rattle.meaning.specs.declared.Meaning.TheVariants.{Nothing, Group, Emit, Timers, GroupScene, Channel, Filter, Query, Gear, Inhibit, Scene, Level, Lit, Target as asked}
-use Rattle.request.specs.declared.Reading.{Reading}
-use Rattle.request.specs.declared.Reading.TheVariants.{Accepted, Refused}
+use Rattle.request.specs.declared.Request.{Request}
 use Rattle.bench_requests.specs.declared.Asked.{Asked}
 use Rattle.bench_requests.specs.declared.Asked.TheVariants.{Reading as a·Reading, Target as a·Target}
 use Rattle.bench_requests.specs.Requests.{lights_texts, meaning_texts, colour_texts, contents_texts, mark_texts, reading_texts, asked_texts}
@@ -57,18 +58,18 @@ abbrev pub mark_pieces : Bool → Pieces
 mark_pieces true = three 0x191 0 0 0 0 0
 mark_pieces false = three 0 0 0 0 0 0
 
-abbrev pub head_pieces : Reading → Pieces
-head_pieces (Accepted q) = byted 0x102 q.sequence 0x113 0 0 0 q.command
-head_pieces (Refused k) = three 4 k 0 0 0 0
+abbrev pub head_pieces : Result Request Refusal → Pieces
+head_pieces (Ok q) = byted 0x102 q.sequence 0x113 0 0 0 q.command
+head_pieces (Err k) = three 4 (number_of k) 0 0 0 0
 
 abbrev pub asked_pieces : Asked → Pieces
 asked_pieces (a·Reading r) = head_pieces r
 asked_pieces (a·Target l) = lights_pieces 0x141 l 0 0
 
 -- what stands behind an answer's pieces: the contents of a request that is accepted, and its mark
-abbrev pub reading_rest : Reading → List (List ℕ)
-reading_rest (Accepted q) = contents_texts q.contents ++ mark_texts q.retired
-reading_rest (Refused k) = []
+abbrev pub reading_rest : Result Request Refusal → List (List ℕ)
+reading_rest (Ok q) = contents_texts q.contents ++ mark_texts q.retired
+reading_rest (Err k) = []
 
 abbrev pub rest_of : Asked → List (List ℕ)
 rest_of (a·Reading r) = reading_rest r
@@ -123,10 +124,10 @@ unfolding before word_in
 mark_said true = refl
 mark_said false = refl
 
-reading_said : (r : Reading) → pieces_texts names (head_pieces r) ++ reading_rest r ≡ reading_texts r
+reading_said : (r : Result Request Refusal) → pieces_texts names (head_pieces r) ++ reading_rest r ≡ reading_texts r
 unfolding before word_in
-reading_said (Accepted q) = refl
-reading_said (Refused k) = refl
+reading_said (Ok q) = refl
+reading_said (Err k) = refl
 
 asked_said : (a : Asked) → pieces_texts names (asked_pieces a) ++ rest_of a ≡ asked_texts a
 asked_said (a·Reading r) = reading_said r

@@ -1,5 +1,7 @@
 -- docs/BENCH.md, "Datagrams": the answers of `request`, case by case.
-use Rattle.std.specs.Prelude.{ℕ, Bool, true, false, List, [], ◌∷◌, ◌++◌}
+use Rattle.std.specs.Prelude.{ℕ, Bool, true, false, List, [], ◌∷◌, ◌++◌, Result, Ok, Err}
+use Rattle.refusal.specs.Refusals.{number_of}
+use Rattle.refusal.specs.declared.Refusal.{Refusal}
 use Rattle.text.specs.Text.{hex_of, decimal_of}
 use Rattle.words.specs.Words.{text}
 use Rattle.bench_say.specs.Said.{run_of}
@@ -12,8 +14,6 @@ use Rattle.meaning.specs.declared.Meaning.TheVariants.{Nothing, Group, Emit, Tim
 use Rattle.request.specs.declared.Contents.{Contents}
 use Rattle.request.specs.declared.Contents.TheVariants.{Basic, Unicast, Colour as coloured}
 use Rattle.request.specs.declared.Request.{Request}
-use Rattle.request.specs.declared.Reading.{Reading}
-use Rattle.request.specs.declared.Reading.TheVariants.{Accepted, Refused}
 use Rattle.bench_requests.specs.declared.Asked.{Asked}
 use Rattle.bench_requests.specs.declared.Asked.TheVariants.{Reading as a·Reading, Target as a·Target}
 
@@ -72,9 +72,9 @@ request_texts q =
     text "0 sequence " ∷ decimal_of q.sequence ∷ text " command " ∷ hex_of q.command
     ∷ (contents_texts q.contents ++ mark_texts q.retired)
 
-abbrev pub reading_texts : Reading → List (List ℕ)
-reading_texts (Accepted q) = request_texts q
-reading_texts (Refused k) = decimal_of k ∷ []
+abbrev pub reading_texts : Result Request Refusal → List (List ℕ)
+reading_texts (Ok q) = request_texts q
+reading_texts (Err k) = decimal_of (number_of k) ∷ []
 
 -- the answer of a call: a reading, or LIGHTS behind a 0
 abbrev pub asked_texts : Asked → List (List ℕ)

@@ -11,13 +11,14 @@ ghost use Rattle.bench_requests.specs.Pieces.{names, lights_pieces, meaning_piec
 use bench_say::Pieces;
 use colour::Colour;
 use meaning::Meaning;
-use request::{Contents, Reading};
+use refusal::Refusal;
+use request::{Contents, Request};
 use target::Target;
 
 // What a call of this family answers.
-#[derive(Clone, Copy)]
+#[derive(Clone, Copy, Debug, PartialEq, Eq)]
 pub enum Asked {
-    Reading(Reading),
+    Reading(Result<Request, Refusal>),
     Target(Target),
 }
 
@@ -183,9 +184,7 @@ fn first(c: Colour) -> Pieces
             red,
             green,
             blue,
-            white: _,
-            amber: _,
-            free: _,
+            ..
         } => Pieces(
             RGBWAF,
             red as u64,
@@ -202,15 +201,12 @@ fn last(c: Colour) -> Pieces
     ensures { result ≡ last_pieces c }
 {
     match c {
-        Colour::Xy { x: _, y: _ } => Pieces(0, 0, 0, 0, 0, 0, 0),
-        Colour::Tc(_) => Pieces(0, 0, 0, 0, 0, 0, 0),
+        Colour::Xy { .. } | Colour::Tc(_) => Pieces(0, 0, 0, 0, 0, 0, 0),
         Colour::Rgbwaf {
-            red: _,
-            green: _,
-            blue: _,
             white,
             amber,
             free,
+            ..
         } => Pieces(
             BLANK,
             white as u64,
@@ -278,19 +274,16 @@ fn contents(out: &mut [u8], at: usize, c: Contents) -> usize
 fn mark(retired: bool) -> Pieces
     ensures { result ≡ mark_pieces retired }
 {
-    if retired {
-        return Pieces(RETIRED, 0, 0, 0, 0, 0, 0);
-    }
-    Pieces(0, 0, 0, 0, 0, 0, 0)
+    Pieces(if retired { RETIRED } else { 0 }, 0, 0, 0, 0, 0, 0)
 }
 
 // How the answer of a reading begins.
-fn head(r: Reading) -> Pieces
+fn head(r: Result<Request, Refusal>) -> Pieces
     ensures { result ≡ head_pieces r }
 {
     match r {
-        Reading::Accepted(q) => Pieces(SEQUENCE, q.sequence as u64, COMMAND, 0, 0, 0, q.command),
-        Reading::Refused(k) => Pieces(4, k as u64, 0, 0, 0, 0, 0),
+        Ok(q) => Pieces(SEQUENCE, q.sequence as u64, COMMAND, 0, 0, 0, q.command),
+        Err(k) => Pieces(4, k.number() as u64, 0, 0, 0, 0, 0),
     }
 }
 
@@ -304,16 +297,15 @@ fn answer(a: Asked) -> Pieces
 }
 
 // The contents of a request that is accepted, and its mark.
-fn accepted(out: &mut [u8], at: usize, r: Reading) -> usize
+fn accepted(out: &mut [u8], at: usize, r: Result<Request, Refusal>) -> usize
     ensures { PutsAll (reading_rest r) out.old at result out.new }
 {
     match r {
-        Reading::Accepted(q) => {
-            let c = q.contents;
-            let e = contents(out, at, c);
+        Ok(q) => {
+            let e = contents(out, at, q.contents);
             put(out, e, mark(q.retired))
         }
-        Reading::Refused(_) => at,
+        Err(_) => at,
     }
 }
 

@@ -35,10 +35,8 @@ pub fn run(out: &mut [u8], at: usize, name: &[u8], s: &[u8]) -> usize
     ensures { PutsAll (name.now ∷ run_of s.now) out.old at result out.new }
 {
     let mut e = lent::word(out, at, name);
-    let mut i: usize = 0;
-    while i < s.len() {
-        e = blank_hex(out, e, s[i]);
-        i += 1;
+    for b in s {
+        e = blank_hex(out, e, *b);
     }
     e
 }

@@ -3,8 +3,6 @@
 use Rattle.std.specs.Prelude.{ℕ, List, [], ◌∷◌, replicate, eqb}
 use Rattle.refusal.specs.Test.{pick}
 use Rattle.words.specs.Words.{text}
-use Rattle.report.specs.declared.Reported.{Reported}
-use Rattle.report.specs.Report.{reporting}
 use Rattle.by_parts.specs.declared.SoFar.{SoFar}
 use Rattle.by_parts.specs.Parts.{begun, parted, ended}
 use Rattle.bench_seasons.specs.Told.{corridor_in, boundaries_in, report_texts}
@@ -22,8 +20,5 @@ abbrev pub moved_by : ℕ → SoFar → List ℕ → SoFar
 moved_by n x s = pick (eqb n 0xD1) (begun_in s) (pick (eqb n 0xD2) (parted x s) x)
 
 -- "as `seasons`, of all parts since `seasons_begin` put together"; of the others nothing, "never refused"
-abbrev pub reported_texts : Reported → List (List ℕ)
-reported_texts r = report_texts r.went r.seasons
-
 abbrev pub told_by : ℕ → SoFar → List (List ℕ)
-told_by n x = pick (eqb n 0xD3) (reported_texts (reporting (ended x))) (text "0" ∷ [])
+told_by n x = pick (eqb n 0xD3) (report_texts (ended x)) (text "0" ∷ [])

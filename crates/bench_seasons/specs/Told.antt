@@ -1,12 +1,9 @@
 -- docs/BENCH.md, "Seasons": what is handed in, and the answers, case by case.
-use Rattle.std.specs.Prelude.{ℕ, List, [], ◌∷◌, ◌++◌, get_or}
+use Rattle.std.specs.Prelude.{ℕ, List, [], ◌∷◌, ◌++◌, get_or, Option, Some, None}
 use Rattle.text.specs.Text.{decimal_of}
 use Rattle.words.specs.Words.{text}
 use Rattle.bench_words.specs.Words.{part_of, wide_of}
-use Rattle.summary.specs.declared.Seconds.{Seconds}
-use Rattle.summary.specs.declared.Seconds.TheVariants.{Absent, At}
-use Rattle.summary.specs.declared.Went.{Went}
-use Rattle.summary.specs.declared.Went.TheVariants.{Well, Refused}
+use Rattle.refusal.specs.Answer.{Answer, refused, full}
 use Rattle.season.specs.declared.Corridor.{Corridor}
 use Rattle.season.specs.declared.Boundaries.{Boundaries}
 use Rattle.season.specs.declared.Season.{Season}
@@ -25,9 +22,9 @@ abbrev pub boundaries_in : List ℕ → Boundaries
 boundaries_in s = record { first = wide_of 4 (part_of s 11 15); second = wide_of 4 (part_of s 15 19); third = wide_of 4 (part_of s 19 23) }
 
 -- "`season N occupied N presses N holds N longest N total N gaps N` (`longest absent`)"
-abbrev pub longest_texts : Seconds → List (List ℕ)
-longest_texts Absent = text " longest absent" ∷ []
-longest_texts (At g) = text " longest " ∷ decimal_of g ∷ []
+abbrev pub longest_texts : Option ℕ → List (List ℕ)
+longest_texts None = text " longest absent" ∷ []
+longest_texts (Some g) = text " longest " ∷ decimal_of g ∷ []
 
 abbrev pub season_texts : ℕ → Season → List (List ℕ)
 season_texts n s =
@@ -36,7 +33,7 @@ season_texts n s =
     ++ (text " gaps " ∷ decimal_of s.gaps ∷ []))
 
 -- "on one line, for N = 1 to 4"; a refusal is its number alone
-abbrev pub report_texts : Went → List Season → List (List ℕ)
-report_texts (Refused k) ss = decimal_of k ∷ []
-report_texts Well ss =
+abbrev pub report_texts : Answer (List Season) → List (List ℕ)
+report_texts (refused k) = decimal_of k ∷ []
+report_texts (full ss) =
     text "0" ∷ (season_texts 1 (get_or ss 0 no_events) ++ (season_texts 2 (get_or ss 1 no_events) ++ (season_texts 3 (get_or ss 2 no_events) ++ season_texts 4 (get_or ss 3 no_events))))

@@ -2,19 +2,19 @@
 // "Seasons". It leans on crates bench_words and bench_say, and on crates season, report and by_parts for what is said.
 #![tactic(auto)]
 
+ghost use Rattle.std.specs.Prelude.{◌≡◌};
+ghost use Rattle.refusal.specs.Answer.{said};
 ghost use Rattle.lent.specs.All.{PutsAll};
 ghost use Rattle.bench_say.specs.Pieces.{pieces_texts};
 ghost use Rattle.bench_seasons.specs.Told.{corridor_in, boundaries_in, season_texts, report_texts};
 ghost use Rattle.bench_seasons.specs.Carried.{begun_in, at_first, moved_by, told_by};
 ghost use Rattle.bench_seasons.specs.Pieces.{names, held_pieces};
-ghost use Rattle.std.specs.Prelude.{◌≡◌};
 
 use bench_say::Pieces;
 use by_parts::SoFar;
 use event::Mac;
-use report::Reported;
+use refusal::Refusal;
 use season::{Boundaries, Corridor, Season};
-use summary::{Seconds, Went};
 
 // The corridor that is handed in.
 pub fn corridor_in(s: &[u8]) -> Corridor
@@ -56,21 +56,18 @@ fn begun_in(s: &[u8]) -> SoFar
 pub fn fresh() -> SoFar
     ensures { result ≡ at_first }
 {
-    let zeros = [0u8; 23];
-    begun_in(&zeros)
+    begun_in(&[0u8; 23])
 }
 
 // What is carried behind a call, by its number: D1 begins, D2 takes a part, D3 and every other move nothing.
 pub fn moved(n: usize, x: SoFar, s: &[u8]) -> SoFar
     ensures { result ≡ moved_by n x s.now }
 {
-    if n == 0xD1 {
-        return begun_in(s);
+    match n {
+        0xD1 => begun_in(s),
+        0xD2 => by_parts::part(x, s),
+        _ => x,
     }
-    if n == 0xD2 {
-        return by_parts::part(x, s);
-    }
-    x
 }
 
 // Pieces with the names of this family: the places of the names are in the pieces' kinds (crate bench_say).
@@ -86,12 +83,12 @@ fn put(out: &mut [u8], at: usize, p: Pieces) -> usize
 }
 
 // Holds, the longest gap and the total.
-fn held(holds: u64, longest: Seconds, total: u64) -> Pieces
+fn held(holds: u64, longest: Option<u32>, total: u64) -> Pieces
     ensures { result ≡ held_pieces holds longest total }
 {
     match longest {
-        Seconds::Absent => Pieces(0x32, holds, 0x51, 0, 0x62, total, 0),
-        Seconds::At(g) => Pieces(0x32, holds, 0x42, g as u64, 0x62, total, 0),
+        None => Pieces(0x32, holds, 0x51, 0, 0x62, total, 0),
+        Some(g) => Pieces(0x32, holds, 0x42, g as u64, 0x62, total, 0),
     }
 }
 
@@ -99,25 +96,22 @@ fn held(holds: u64, longest: Seconds, total: u64) -> Pieces
 fn season(out: &mut [u8], at: usize, n: u64, s: Season) -> usize
     ensures { PutsAll (season_texts n s) out.old at result out.new }
 {
-    let longest = s.longest;
     let e = put(
         out,
         at,
         Pieces(0x02, n, 0x12, s.occupied, 0x22, s.presses, 0),
     );
-    let f = put(out, e, held(s.holds, longest, s.total));
+    let f = put(out, e, held(s.holds, s.longest, s.total));
     put(out, f, Pieces(0x72, s.gaps, 0, 0, 0, 0, 0))
 }
 
 // The four seasons, or the refusal.
-pub fn say(out: &mut [u8], at: usize, r: Reported) -> usize
-    ensures { PutsAll (report_texts r.went r.seasons) out.old at result out.new }
+pub fn say(out: &mut [u8], at: usize, r: Result<[Season; tally::SEASONS], Refusal>) -> usize
+    ensures { PutsAll (report_texts (said r)) out.old at result out.new }
 {
-    let went = r.went;
-    let seasons = r.seasons;
-    match went {
-        Went::Refused(k) => text::decimal(out, at, k as u64),
-        Went::Well => {
+    match r {
+        Err(refusal) => text::decimal(out, at, refusal.number() as u64),
+        Ok(seasons) => {
             let e = lent::byte(out, at, b'0');
             let f = season(out, e, 1, seasons[0]);
             let g = season(out, f, 2, seasons[1]);
@@ -132,7 +126,8 @@ pub fn tell(out: &mut [u8], at: usize, n: usize, x: SoFar) -> usize
     ensures { PutsAll (told_by n x) out.old at result out.new }
 {
     if n == 0xD3 {
-        return say(out, at, by_parts::end(x));
+        say(out, at, by_parts::end(x))
+    } else {
+        lent::byte(out, at, b'0')
     }
-    lent::byte(out, at, b'0')
 }

@@ -1,6 +1,6 @@
 -- docs/BENCH.md, "A line": "What follows are groups of bytes. A byte is two hexadecimal digits, capitals or not. `/` ends a group and begins
 -- the next."
-use Rattle.std.specs.Prelude.{ℕ, zero, ◌+◌, ◌-◌, ◌*◌, ◌≤◌, ◌≡◌, List, [], ◌∷◌, ◌++◌, length, get_or, take, drop, eqb, ltb, leb}
+use Rattle.std.specs.Prelude.{ℕ, Option, Some, None, ◌+◌, ◌*◌, ◌≤◌, ◌≡◌, List, [], ◌∷◌, ◌++◌, length, get_or, take, drop, eqb, ltb, leb}
 use Rattle.std.proofs.Common.{sym, ◌∙◌}
 use Rattle.refusal.specs.Test.{pick}
 use Rattle.text.specs.Text.{digit_of}
@@ -8,8 +8,6 @@ use Rattle.bench_words.specs.Words.{words_at}
 use Rattle.bench_words.specs.declared.Word.{Word}
 use Rattle.bench_words.specs.declared.Word.TheVariants.{Nothing, Slash, Byte, Other}
 use Rattle.bench_words.specs.declared.Groups.{Groups}
-use Rattle.bench_words.specs.declared.Parsed.{Parsed}
-use Rattle.bench_words.specs.declared.Parsed.TheVariants.{Groups as Parsed-groups, NotAByte}
 
 -- what a word says: one of no bytes nothing, `/` (47) a slash, two digits a byte, and another is other
 abbrev pub pair_of : ℕ → ℕ → Word
@@ -52,32 +50,32 @@ abbrev pub kept_of : Taken → List ℕ
 kept_of (groups k a b run) = run
 kept_of (other run) = run
 
-abbrev pub parsed_of : Taken → Parsed
-parsed_of (groups k a b run) = Parsed-groups (record { count = k; a = a; b = b; c = length run })
-parsed_of (other run) = NotAByte
+abbrev pub parsed_of : Taken → Option Groups
+parsed_of (groups k a b run) = Some (record { count = k; a = a; b = b; c = length run })
+parsed_of (other run) = None
 
 -- the contract of `parse`: what the words say, and their bytes at the front of the run that was lent
-pub record Reads (line : List ℕ) (from : ℕ) (bytes : List ℕ) (r : Parsed) (bytes' : List ℕ) : Type 0 where
+pub record Reads (line : List ℕ) (from : ℕ) (bytes : List ℕ) (r : Option Groups) (bytes' : List ℕ) : Type 0 where
   pub says : r ≡ parsed_of (taken_of (length bytes) line from)
   pub leaves : bytes' ≡ kept_of (taken_of (length bytes) line from) ++ drop (length (kept_of (taken_of (length bytes) line from))) bytes
 
 -- it leaves no choice
-pub reads_one : {line bytes p q : List ℕ} {from : ℕ} {r s : Parsed} → Reads line from bytes r p → Reads line from bytes s q → (r ≡ s) × (p ≡ q)
+pub reads_one : {line bytes p q : List ℕ} {from : ℕ} {r s : Option Groups} → Reads line from bytes r p → Reads line from bytes s q → (r ≡ s) × (p ≡ q)
 reads_one a b = (a.says ∙ sym b.says, a.leaves ∙ sym b.leaves)
 
 -- the groups so far, as the code has them, and one word more
 abbrev pub filled : Groups → List ℕ → Taken
 filled g bytes = groups g.count g.a g.b (take g.c bytes)
 
-abbrev pub end_of : Groups → Parsed → ℕ
-end_of g (Parsed-groups h) = h.c
-end_of g NotAByte = g.c
+abbrev pub end_of : Groups → Option Groups → ℕ
+end_of g (Some h) = h.c
+end_of g None = g.c
 
-abbrev pub held_by : Groups → Parsed → List ℕ → Taken
-held_by g (Parsed-groups h) bytes = filled h bytes
-held_by g NotAByte bytes = other (take g.c bytes)
+abbrev pub held_by : Groups → Option Groups → List ℕ → Taken
+held_by g (Some h) bytes = filled h bytes
+held_by g None bytes = other (take g.c bytes)
 
-pub record Grows (g : Groups) (bytes s : List ℕ) (r : Parsed) (bytes' : List ℕ) : Type 0 where
+pub record Grows (g : Groups) (bytes s : List ℕ) (r : Option Groups) (bytes' : List ℕ) : Type 0 where
   pub says : held_by g r bytes' ≡ word_more (length bytes) (filled g bytes) (word_of s)
   pub within : end_of g r ≤ length bytes
   pub same : length bytes' ≡ length bytes

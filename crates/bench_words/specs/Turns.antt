@@ -1,5 +1,5 @@
 -- Laws of words: the first of them, and those behind it; and of a word more.
-use Rattle.std.specs.Prelude.{ℕ, zero, suc, ◌+◌, ◌-◌, ◌≤◌, ◌<◌, ◌≡◌, Bool, true, false, List, [], ◌∷◌, ◌++◌, drop, set, eqb, ltb, leb}
+use Rattle.std.specs.Prelude.{ℕ, Some, None, suc, ◌+◌, ◌-◌, ◌≤◌, ◌<◌, ◌≡◌, Bool, true, false, List, [], ◌∷◌, ◌++◌, drop, set, eqb, ltb, leb}
 use Rattle.std.proofs.Math.Path.{refl, sym}
 use Rattle.std.proofs.Common.{ap, ap₂, ◌∙◌, append_assoc, append-nil, length-drop, length-set, take-append-drop, drop-drop, take-suc-set}
 use Rattle.std.proofs.Math.ListN.{length, take}
@@ -10,10 +10,9 @@ use native.Mathlib.Omega.{arith}
 use Rattle.refusal.specs.Test.{pick}
 use Rattle.words.specs.Words.{before}
 use Rattle.bench_words.specs.Words.{words_from, words_at}
-use Rattle.bench_words.specs.Groups.{word_of, Taken, groups, other, byte_more, all_more, taken_of, kept_of, filled, Grows, Reads}
+use Rattle.bench_words.specs.Groups.{word_of, Taken, other, byte_more, all_more, taken_of, kept_of, filled, Grows, Reads}
 use Rattle.bench_words.specs.declared.Word.TheVariants.{Nothing, Slash, Byte, Other}
 use Rattle.bench_words.specs.declared.Groups.{Groups}
-use Rattle.bench_words.specs.declared.Parsed.TheVariants.{Groups as Parsed-groups, NotAByte}
 
 -- the words behind the first blank
 unfoldable rest_of : List ℕ → List (List ℕ)
@@ -71,24 +70,24 @@ words_done s i h = rw (lt-leb i (length s) h)
 
 -- how a word more goes
 module _ (g : Groups) (bytes s : List ℕ) (h : g.c ≤ length bytes) where
-  pub grows_nothing : word_of s ≡ Nothing → Grows g bytes s (Parsed-groups g) bytes
+  pub grows_nothing : word_of s ≡ Nothing → Grows g bytes s (Some g) bytes
   grows_nothing e = record { says = rw e; within = h; same = refl; behind = refl; further = omega arith }
 
   pub grows_slash : (k : ℕ) → word_of s ≡ Slash → k ≡ pick (ltb g.count 4) (g.count + 1) 4
-      → Grows g bytes s (Parsed-groups (record { count = k; a = g.a; b = g.b; c = g.c })) bytes
+      → Grows g bytes s (Some (record { count = k; a = g.a; b = g.b; c = g.c })) bytes
   grows_slash k e p = record { says = rw (e, p); within = h; same = refl; behind = refl; further = omega arith }
 
-  pub grows_other : word_of s ≡ Other → Grows g bytes s NotAByte bytes
+  pub grows_other : word_of s ≡ Other → Grows g bytes s None bytes
   grows_other e = record { says = rw e; within = h; same = refl; behind = refl; further = omega arith }
 
-  pub grows_full : (x : ℕ) → word_of s ≡ Byte x → length bytes ≤ g.c → Grows g bytes s (Parsed-groups g) bytes
+  pub grows_full : (x : ℕ) → word_of s ≡ Byte x → length bytes ≤ g.c → Grows g bytes s (Some g) bytes
   unfolding byte_more
   grows_full x e l =
       let t : length (take g.c bytes) ≡ g.c = length-take-le g.c bytes h in
       record { says = rw (e, t, le-leb (length bytes) g.c l); within = h; same = refl; behind = refl; further = omega arith }
 
   pub grows_byte : (x a b : ℕ) → word_of s ≡ Byte x → g.c < length bytes → a ≡ pick (eqb g.count 1) (g.c + 1) g.a → b ≡ pick (leb g.count 2) (g.c + 1) g.b
-      → Grows g bytes s (Parsed-groups (record { count = g.count; a = a; b = b; c = g.c + 1 })) (set bytes g.c x)
+      → Grows g bytes s (Some (record { count = g.count; a = a; b = b; c = g.c + 1 })) (set bytes g.c x)
   unfolding byte_more
   grows_byte x a b e l p q =
       let t : length (take g.c bytes) ≡ g.c = length-take-le g.c bytes h in
@@ -130,7 +129,7 @@ module _ (line : List ℕ) (from : ℕ) (bytes₀ bytes : List ℕ) (g : Groups)
       rw (e, k, m, ← b) (sym (take-append-drop n bytes'))
 
   module _ (e : ℕ) (h : i ≤ length line) (q : e ≡ i + before 32 (drop i line)) (bytes' : List ℕ) where
-    pub under_turn : (more : Groups) → Grows g bytes (take (e - i) (drop i line)) (Parsed-groups more) bytes' → Under line from bytes₀ bytes' more (e + 1)
+    pub under_turn : (more : Groups) → Grows g bytes (take (e - i) (drop i line)) (Some more) bytes' → Under line from bytes₀ bytes' more (e + 1)
     unfolding all_more
     under_turn more w = record {
       same = w.same ∙ u.same;
@@ -139,7 +138,7 @@ module _ (line : List ℕ) (from : ℕ) (bytes₀ bytes : List ℕ) (g : Groups)
       left = rw (w.says, u.same) (rw (words_turn line i e h q) at u.left);
     }
 
-    pub under_other : Grows g bytes (take (e - i) (drop i line)) NotAByte bytes' → Reads line from bytes₀ NotAByte bytes'
+    pub under_other : Grows g bytes (take (e - i) (drop i line)) None bytes' → Reads line from bytes₀ None bytes'
     unfolding all_more
     under_other w =
         let p : all_more (length bytes₀) (other (take g.c bytes')) (words_at (e + 1) line) ≡ taken_of (length bytes₀) line from =
@@ -147,7 +146,7 @@ module _ (line : List ℕ) (from : ℕ) (bytes₀ bytes : List ℕ) (g : Groups)
         let t : taken_of (length bytes₀) line from ≡ other (take g.c bytes') = sym p ∙ more_other (length bytes₀) (take g.c bytes') (words_at (e + 1) line) in
         record { says = rw t; leaves = whole bytes' (other (take g.c bytes')) g.c t refl (omega (arith, w.within, w.same)) (w.behind ∙ u.behind) }
 
-  pub under_done : length line < i → Reads line from bytes₀ (Parsed-groups g) bytes
+  pub under_done : length line < i → Reads line from bytes₀ (Some g) bytes
   unfolding all_more
   under_done h =
       let t : taken_of (length bytes₀) line from ≡ filled g bytes = sym u.left ∙ rw (words_done line i h) in

@@ -16,13 +16,6 @@ pub struct Groups {
     pub c: usize,
 }
 
-// The groups, or that a word is neither a byte nor a slash.
-#[derive(Drop)]
-pub enum Parsed {
-    Groups(Groups),
-    NotAByte,
-}
-
 // What a word says.
 #[derive(Drop)]
 enum Word {
@@ -36,14 +29,12 @@ enum Word {
 pub fn first(s: &[u8]) -> usize
     ensures { result ≡ blanks s.now }
 {
-    let mut i: usize = 0;
-    while i < s.len() {
+    for i in 0..s.len() {
         if s[i] != b' ' {
             return i;
         }
-        i += 1;
     }
-    i
+    s.len()
 }
 
 // The part of a run from a up to e; where there is none, no bytes, at its front.
@@ -64,51 +55,38 @@ pub fn part(s: &[u8], a: usize, e: usize) -> &[u8]
 pub fn byte_at(s: &[u8], i: usize) -> u8
     ensures { result ≡ get_or s.now i 0 }
 {
-    if i < s.len() { s[i] } else { 0 }
-}
-
-fn two(high: u8, low: u8) -> u16
-    ensures { result ≡ high * 256 + low }
-{
-    (high as u16) * 256 + (low as u16)
-}
-
-fn four(high: u16, low: u16) -> u32
-    ensures { result ≡ high * 0x1_0000 + low }
-{
-    (high as u32) * 0x1_0000 + (low as u32)
-}
-
-fn eight(high: u32, low: u32) -> u64
-    ensures { result ≡ high * 0x1_0000_0000 + low }
-{
-    (high as u64) * 0x1_0000_0000 + (low as u64)
+    s.get(i).copied().unwrap_or(0)
 }
 
 // The number of the first two, four or eight bytes of a run, high byte first. Bytes past its end are 0.
+#[tactic(auto, unfolding(crate::specs::Words::wide_of))]
 pub fn wide16(s: &[u8]) -> u16
     ensures { result ≡ wide_of 2 s.now }
 {
-    two(byte_at(s, 0), byte_at(s, 1))
+    u16::from_be_bytes([byte_at(s, 0), byte_at(s, 1)])
 }
 
+#[tactic(auto, unfolding(crate::specs::Words::wide_of))]
 pub fn wide32(s: &[u8]) -> u32
     ensures { result ≡ wide_of 4 s.now }
 {
-    four(
-        two(byte_at(s, 0), byte_at(s, 1)),
-        two(byte_at(s, 2), byte_at(s, 3)),
-    )
+    u32::from_be_bytes([byte_at(s, 0), byte_at(s, 1), byte_at(s, 2), byte_at(s, 3)])
 }
 
+#[tactic(auto, unfolding(crate::specs::Words::wide_of))]
 pub fn wide64(s: &[u8]) -> u64
     ensures { result ≡ wide_of 8 s.now }
 {
-    let low = four(
-        two(byte_at(s, 4), byte_at(s, 5)),
-        two(byte_at(s, 6), byte_at(s, 7)),
-    );
-    eight(wide32(s), low)
+    u64::from_be_bytes([
+        byte_at(s, 0),
+        byte_at(s, 1),
+        byte_at(s, 2),
+        byte_at(s, 3),
+        byte_at(s, 4),
+        byte_at(s, 5),
+        byte_at(s, 6),
+        byte_at(s, 7),
+    ])
 }
 
 fn word_of(s: &[u8]) -> Word
@@ -138,41 +116,36 @@ fn word_of(s: &[u8]) -> Word
     Word::Byte(h * 16 + l)
 }
 
-// A word more. A byte that the run has no room for is let go: no line is so long.
-fn grown(g: Groups, bytes: &mut [u8], s: &[u8]) -> Parsed
+// A word more; none where it is neither a byte nor a slash. A byte that the run has no room for is let go: no line is so long.
+fn grown(g: Groups, bytes: &mut [u8], s: &[u8]) -> Option<Groups>
     requires { g.c ≤ length bytes.old }
     ensures { Grows g bytes.old s.now result bytes.new }
 {
     let count = g.count;
     let n = g.c;
-    let w = word_of(s);
-    match w {
-        Word::Nothing => Parsed::Groups(g),
+    match word_of(s) {
+        Word::Nothing => Some(g),
         Word::Slash => {
             let more = if count < 4 { count + 1 } else { 4 };
-            Parsed::Groups(Groups {
-                count: more,
-                a: g.a,
-                b: g.b,
-                c: n,
-            })
+            Some(Groups { count: more, ..g })
         }
         Word::Byte(x) => {
             if bytes.len() <= n {
-                return Parsed::Groups(g);
+                return Some(g);
             }
             bytes[n] = x;
             let e = n + 1;
             let a = if count == 1 { e } else { g.a };
             let b = if count <= 2 { e } else { g.b };
-            Parsed::Groups(Groups { count, a, b, c: e })
+            Some(Groups { count, a, b, c: e })
         }
-        Word::Other => Parsed::NotAByte,
+        Word::Other => None,
     }
 }
 
-// The groups that the words of a line from a place on say, their bytes put to the front of a run.
-pub fn parse(line: &[u8], from: usize, bytes: &mut [u8]) -> Parsed
+// The groups that the words of a line from a place on say, their bytes put to the front of a run; none where a word is neither a byte nor a
+// slash. (A while: each turn goes on behind the word that it read.)
+pub fn parse(line: &[u8], from: usize, bytes: &mut [u8]) -> Option<Groups>
     ensures { Reads line.now from bytes.old result bytes.new }
 {
     let mut g = Groups {
@@ -184,14 +157,8 @@ pub fn parse(line: &[u8], from: usize, bytes: &mut [u8]) -> Parsed
     let mut i = from;
     while i <= line.len() {
         let e = words::until(line, i, b' ');
-        let next = grown(g, bytes, &line[i..e]);
-        match next {
-            Parsed::NotAByte => return Parsed::NotAByte,
-            Parsed::Groups(more) => {
-                g = more;
-            }
-        }
+        g = grown(g, bytes, &line[i..e])?;
         i = e + 1;
     }
-    Parsed::Groups(g)
+    Some(g)
 }

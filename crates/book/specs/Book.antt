@@ -3,8 +3,6 @@ use Rattle.std.specs.Prelude.{ℕ, set, replicate}
 use Rattle.refusal.specs.Answer.{Answer, refused, full, demand}
 use Rattle.free_number.specs.declared.Book.{Book}
 use Rattle.free_number.specs.Number.{vacant, entry, holds}
-use Rattle.book.specs.declared.Freed.{Freed}
-use Rattle.book.specs.declared.Freed.TheVariants.{Command, Refused as freed·Refused}
 
 -- "Fresh: nothing held, last number 255."
 abbrev pub fresh_book : Book
@@ -23,8 +21,3 @@ command_of b n = demand (holds b.asked n) 10 (full (entry b.asked n))
 abbrev pub freed : Book → ℕ → Answer ℕ → Book
 freed b n (refused k) = b
 freed b n (full c) = record { asked = set b.asked n vacant; last = b.last }
-
--- document 01's number and values for each case of an answer
-abbrev pub said_freed : Freed → Answer ℕ
-said_freed (freed·Refused k) = refused k
-said_freed (Command c) = full c

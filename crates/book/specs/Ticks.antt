@@ -1,15 +1,14 @@
 -- Document 02, W-205: "The book of unanswered requests must also hold the tick .. at which each was asked." What asking, replying and giving
 -- up answer, and the book afterwards. "The record changes for asking and replying as well; their numbers, order and refusals stay": these
 -- are those of the book without ticks.
-use Rattle.std.specs.Prelude.{ℕ, zero, suc, ◌≡◌, Bool, ◌&&◌, List, [], ◌∷◌, get_or, set, replicate, length}
+use Rattle.std.specs.Prelude.{ℕ, zero, suc, ◌≡◌, Bool, ◌&&◌, List, [], ◌∷◌, get_or, set, replicate, length, Result}
 use Rattle.refusal.specs.Test.{pick}
-use Rattle.refusal.specs.Answer.{Answer, refused, full}
+use Rattle.refusal.specs.Answer.{Answer, refused, full, said}
 use Rattle.tick.specs.Age.{is_over}
 use Rattle.book.specs.declared.Timed.{Timed}
-use Rattle.free_number.specs.declared.Given.{Given}
-use Rattle.book.specs.declared.Freed.{Freed}
-use Rattle.free_number.specs.Number.{vacant, holds, book, number_for, said_given}
-use Rattle.book.specs.Book.{fresh_book, noted, command_of, freed, said_freed}
+use Rattle.refusal.specs.declared.Refusal.{Refusal}
+use Rattle.free_number.specs.Number.{vacant, holds, book, number_for}
+use Rattle.book.specs.Book.{fresh_book, noted, command_of, freed}
 
 -- a book of its parts, as they are lent: the entries, the last number, the ticks
 abbrev pub timed : List ℕ → ℕ → List ℕ → Timed
@@ -60,12 +59,12 @@ abbrev pub count_freed : Timed → ℕ → ℕ → ℕ
 count_freed b clock limit = length (old_ones b.book.asked b.ticks clock limit)
 
 -- THE CONTRACTS: the answer, and the book afterwards. A part that a call is not lent is any, and stays as it is
-pub record Asks (b : Timed) (c t : ℕ) (r : Given) (after : Timed) : Type 0 where
-  pub says : said_given r ≡ number_for b.book c
+pub record Asks (b : Timed) (c t : ℕ) (r : Result ℕ Refusal) (after : Timed) : Type 0 where
+  pub says : said r ≡ number_for b.book c
   pub leaves : after ≡ noted_at b c t (number_for b.book c)
 
-pub record Replies (asked : List ℕ) (n : ℕ) (r : Freed) (after : List ℕ) : Type 0 where
-  pub says : (last : ℕ) → said_freed r ≡ command_of (book asked last) n
+pub record Replies (asked : List ℕ) (n : ℕ) (r : Result ℕ Refusal) (after : List ℕ) : Type 0 where
+  pub says : (last : ℕ) → said r ≡ command_of (book asked last) n
   pub leaves : (last : ℕ) → book after last ≡ freed (book asked last) n (command_of (book asked last) n)
 
 pub record GivesUp (asked ticks : List ℕ) (clock limit r : ℕ) (after : List ℕ) : Type 0 where

@@ -7,21 +7,15 @@
 ghost use Rattle.std.specs.Prelude.{◌≡◌};
 ghost use Rattle.book.specs.Ticks.{timed, fresh_timed, Asks, Replies, GivesUp};
 
+pub use free_number::Book;
 use free_number::VACANT;
-pub use free_number::{Book, Given};
+use refusal::Refusal;
 
 // A book with the tick at which each request was asked. Where nothing is held under a number, its tick says nothing.
 #[derive(Clone, Copy)]
 pub struct Timed {
     pub book: Book,
     pub ticks: [u32; 256],
-}
-
-// What a reply answers: the command asked under its sequence number, or the number of its refusal.
-#[derive(Clone, Copy)]
-pub enum Freed {
-    Command(u8),
-    Refused(u8),
 }
 
 // Nothing is held, and the first number that it gives is 0.
@@ -45,33 +39,28 @@ pub fn ask(
     ticks: &mut [u32; 256],
     command: u8,
     tick: u32,
-) -> Given
+) -> Result<u8, Refusal>
     ensures { Asks (timed asked.old last.old ticks.old) command tick result (timed asked.new last.new ticks.new) }
 {
-    let answer = free_number::number_for(asked, *last, command);
-    match answer {
-        Given::Refused(_) => answer,
-        Given::Number(n) => {
-            asked[n as usize] = command;
-            ticks[n as usize] = tick;
-            *last = n;
-            answer
-        }
-    }
+    let n = free_number::number_for(asked, *last, command)?;
+    asked[n as usize] = command;
+    ticks[n as usize] = tick;
+    *last = n;
+    Ok(n)
 }
 
 // Takes a reply's sequence number: it is free from then on, and its command is the answer, a retired one too. Where it is refused, with 10
 // for a number that is not awaited, the book is as it was.
-pub fn reply(asked: &mut [u8; 256], number: u8) -> Freed
+pub fn reply(asked: &mut [u8; 256], number: u8) -> Result<u8, Refusal>
     ensures { Replies asked.old number result asked.new }
 {
     let at = number as usize;
     let command = asked[at];
     if !command::known(command) {
-        return Freed::Refused(10);
+        return Err(Refusal::NotAwaited);
     }
     asked[at] = VACANT;
-    Freed::Command(command)
+    Ok(command)
 }
 
 // Gives up each request that was asked longer ago than a limit, by the tick now: its number is free from then on. No other changes. The
@@ -80,15 +69,12 @@ pub fn give_up(asked: &mut [u8; 256], ticks: &[u32; 256], clock: u32, limit: u32
     ensures { GivesUp asked.old ticks.now clock limit result asked.new }
 {
     let mut count: u16 = 0;
-    let mut n: usize = 0;
-    while n < 256 {
-        if tick::over(clock, ticks[n], limit) {
-            if command::known(asked[n]) {
-                asked[n] = VACANT;
-                count += 1;
-            }
+    // No `zip` of the two arrays: of entries that are written through one the prover knows nothing afterwards.
+    for (n, &tick) in ticks.iter().enumerate() {
+        if tick::over(clock, tick, limit) && command::known(asked[n]) {
+            asked[n] = VACANT;
+            count += 1;
         }
-        n += 1;
     }
     count
 }

@@ -1,29 +1,25 @@
 -- Bytes cut in two: the records in front, what is left, and how it goes on with the others.
-use Rattle.std.specs.Prelude.{ℕ, zero, suc, ◌+◌, ◌-◌, ◌≤◌, ◌<◌, ◌≡◌, ◌&&◌, ◌||◌, List, [], ◌∷◌, ◌++◌, get_or, take, drop}
+use Rattle.std.specs.Prelude.{ℕ, zero, suc, ◌+◌, ◌-◌, ◌≤◌, ◌<◌, ◌≡◌, ◌&&◌, ◌||◌, List, [], ◌∷◌, ◌++◌, get_or, take, drop, Option, Some}
 use Rattle.std.proofs.Math.Path.{refl}
-use Rattle.std.proofs.Common.{sym, ap, ◌∙◌, append_assoc, length-append, length-drop, drop-drop, arith}
+use Rattle.std.proofs.Common.{sym, ap, ◌∙◌, length-append, length-drop, drop-drop, arith}
 use Rattle.std.proofs.Math.Bool.{Bool, true, false}
 use Rattle.std.proofs.Math.ListN.{length, get_or-append}
 use Rattle.std.proofs.lemmas.List.{take-append-le, drop-append-le}
 use Rattle.std.proofs.Math.Dec.{leb, ltb}
 use borrow.Author.Tests.{le-leb, lt-leb, leb-true, leb-false, ltb-true, ltb-false, lt-ltb, le-ltb}
 use Rattle.refusal.specs.Test.{clash, both_left, both_right, not_both}
-use Rattle.refusal.specs.Answer.{Answer, refused, full, full_one}
-use Rattle.lead.specs.Lead.{event_data}
+use Rattle.refusal.specs.Answer.{Answer, refused, full}
 use Rattle.frame.specs.Frame.{listed}
 use Rattle.order.specs.Order.{high_first, number_in}
-use Rattle.event.specs.Layout.{least}
 use Rattle.event.specs.Reading.{Told, read_event}
 use Rattle.event.specs.Fits.{read_fits}
 use Rattle.led.specs.Led.{length_in, part_at}
 use Rattle.led.specs.Cut.{follows}
 use Rattle.record.specs.Record.{Entry, record_size, seconds_in, datagram_in, with_event, record_at}
 use Rattle.record.specs.Found.{Holds, holds, with_part_lem}
-use Rattle.summary.specs.declared.Seconds.{Seconds}
-use Rattle.summary.specs.declared.Seconds.TheVariants.{At}
-use Rattle.summary.specs.Summary.{last_from, not_before}
+use Rattle.summary.specs.Summary.{last_from}
 use Rattle.capture.specs.Capture.{next_at, records_from, sizes_of}
-use Rattle.capture.specs.Walk.{next_is, is_next, next_fits, records_stop, records_next, records_cases}
+use Rattle.capture.specs.Walk.{next_is, is_next, next_fits, records_next, records_cases}
 use Rattle.by_parts.specs.Parts.{longest_rest, is_settled}
 
 -- ONE RECORD. What stands in the first bytes stands there whatever follows
@@ -81,7 +77,7 @@ module _ (w : ℕ) (s p : List ℕ) (r : Entry) where
         reads = h.reads;
       })
 
-pub next_more : (w : ℕ) (last : Seconds) (s p : List ℕ) (r : Entry) → next_at w last s ≡ full r → next_at w last (s ++ p) ≡ full r
+pub next_more : (w : ℕ) (last : Option ℕ) (s p : List ℕ) (r : Entry) → next_at w last s ≡ full r → next_at w last (s ++ p) ≡ full r
 next_more w last s p r e =
     let h = next_is w last s r e in
     is_next w last (s ++ p) r (record_more w s p r h.0) h.1
@@ -146,14 +142,14 @@ module _ (w : ℕ) (s : List ℕ) where
   unsettled_few e = unsettled_cases e (λ h. omega arith) (λ h k. omega arith)
 
 -- a record that comes is not too long
-rest_fits : (w : ℕ) (last : Seconds) (s : List ℕ) (r : Entry) → next_at w last s ≡ full r → (length_in s ≡ 4 + length r.datagram) × (length_in s ≤ longest_rest w)
+rest_fits : (w : ℕ) (last : Option ℕ) (s : List ℕ) (r : Entry) → next_at w last s ≡ full r → (length_in s ≡ 4 + length r.datagram) × (length_in s ≤ longest_rest w)
 rest_fits w last s r e =
     let h = holds w s r (next_is w last s r e).0 in
     let f = read_fits w r.datagram r.event h.reads in
     (h.size, omega (arith, h.size, f.0, f.1))
 
 -- what tells nothing begins no record
-pub unsettled_none : (w : ℕ) (last : Seconds) (s : List ℕ) → is_settled w s ≡ false → records_from w last s ≡ []
+pub unsettled_none : (w : ℕ) (last : Option ℕ) (s : List ℕ) → is_settled w s ≡ false → records_from w last s ≡ []
 unsettled_none w last s f =
     records_cases w last s (λ r e q. not_both (all_there w s (omega (arith, (rest_fits w last s r e).0, next_fits w last s r e))) f) (λ q. q)
 
@@ -166,7 +162,7 @@ module _ (w : ℕ) (s p : List ℕ) (e : is_settled w s ≡ true) where
       (λ h. all_there w (s ++ p) (omega (arith, l, h, length_front s p (omega (arith, h)))))
 
   -- and a record that it tells to be bad, or none, stays so too
-  pub bad_stays : (last : Seconds) {k : ℕ} → next_at w last s ≡ refused k → records_from w last (s ++ p) ≡ []
+  pub bad_stays : (last : Option ℕ) {k : ℕ} → next_at w last s ≡ refused k → records_from w last (s ++ p) ≡ []
   bad_stays last {k} q =
       records_cases w last (s ++ p)
       (λ r x y.
@@ -180,26 +176,26 @@ module _ (w : ℕ) (s p : List ℕ) (e : is_settled w s ≡ true) where
       (λ z. z)
 
 -- RECORDS, AND WHAT IS LEFT: those of bytes cut in two are those of the front, then those of what it leaves with the others behind
-abbrev pub CutAt : ℕ → Seconds → List ℕ → List ℕ → List Entry → Type 0
+abbrev pub CutAt : ℕ → Option ℕ → List ℕ → List ℕ → List Entry → Type 0
 CutAt w last s p rs = records_from w last (s ++ p) ≡ rs ++ records_from w (last_from last rs) (drop (sizes_of rs) s ++ p)
 
-cut_some : (w : ℕ) (last : Seconds) (s p : List ℕ) (r : Entry) (rs : List Entry) → next_at w last s ≡ full r
-    → CutAt w (At r.seconds) (drop (record_size r.datagram) s) p rs → CutAt w last s p (r ∷ rs)
+cut_some : (w : ℕ) (last : Option ℕ) (s p : List ℕ) (r : Entry) (rs : List Entry) → next_at w last s ≡ full r
+    → CutAt w (Some r.seconds) (drop (record_size r.datagram) s) p rs → CutAt w last s p (r ∷ rs)
 cut_some w last s p r rs e again =
     let k : ℕ = record_size r.datagram in
     records_next w last (s ++ p) r (next_more w last s p r e)
-    ∙ ap (λ (l : List ℕ). r ∷ records_from w (At r.seconds) l) (drop-append-le k s p (next_fits w last s r e))
+    ∙ ap (λ (l : List ℕ). r ∷ records_from w (Some r.seconds) l) (drop-append-le k s p (next_fits w last s r e))
     ∙ ap (λ (l : List Entry). r ∷ l) again
-    ∙ ap (λ (l : List ℕ). r ∷ (rs ++ records_from w (last_from (At r.seconds) rs) (l ++ p))) (drop-drop (sizes_of rs) k s)
+    ∙ ap (λ (l : List ℕ). r ∷ (rs ++ records_from w (last_from (Some r.seconds) rs) (l ++ p))) (drop-drop (sizes_of rs) k s)
 
-cut_to : (n w : ℕ) (last : Seconds) (s p : List ℕ) → length s ≤ n → CutAt w last s p (records_from w last s)
+cut_to : (n w : ℕ) (last : Option ℕ) (s p : List ℕ) → length s ≤ n → CutAt w last s p (records_from w last s)
 cut_to zero w last s p h = records_cases w last s (λ r e q. absurd (omega (arith, next_fits w last s r e))) (λ q. rw q refl)
 cut_to (suc n) w last s p h =
     records_cases w last s
     (λ r e q.
     let z : List ℕ = drop (record_size r.datagram) s in
-    rw q (cut_some w last s p r (records_from w (At r.seconds) z) e (cut_to n w (At r.seconds) z p (simp length-drop (omega (arith, next_fits w last s r e))))))
+    rw q (cut_some w last s p r (records_from w (Some r.seconds) z) e (cut_to n w (Some r.seconds) z p (simp length-drop (omega (arith, next_fits w last s r e))))))
     (λ q. rw q refl)
 
-pub records_cut : (w : ℕ) (last : Seconds) (s p : List ℕ) → CutAt w last s p (records_from w last s)
+pub records_cut : (w : ℕ) (last : Option ℕ) (s p : List ℕ) → CutAt w last s p (records_from w last s)
 records_cut w last s p = cut_to (length s) w last s p (omega arith)

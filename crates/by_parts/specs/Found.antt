@@ -1,45 +1,31 @@
 -- The definitions, told by what the code has found.
-use Rattle.std.specs.Prelude.{ℕ, ◌+◌, ◌-◌, ◌≤◌, ◌<◌, ◌≡◌, refl, Bool, true, false, not, ◌&&◌, List, [], ◌∷◌, ◌++◌, length, take, drop, leb, ltb, eqb}
+use Rattle.std.specs.Prelude.{ℕ, ◌+◌, ◌-◌, ◌≤◌, ◌<◌, ◌≡◌, refl, Bool, true, false, not, ◌&&◌, List, [], ◌++◌, length, take, drop, leb, eqb}
 use Rattle.std.proofs.Common.{sym, ap, ◌∙◌, length-append, length-take, length-drop, take_all, length-take-le, arith}
-use borrow.Author.Tests.{le-leb, lt-leb, leb-true, le-ltb, eq-eqb, ne_eqb}
+use borrow.Author.Tests.{le-leb, lt-leb, leb-true}
 use Rattle.refusal.specs.Test.{pick}
 use Rattle.refusal.specs.Answer.{refused, full}
+use Rattle.refusal.specs.Refusals.{number_of}
+use Rattle.refusal.specs.declared.Refusal.{Refusal}
 use Rattle.event.specs.declared.Layout.{Layout}
 use Rattle.event.specs.Layout.{width_of}
-use Rattle.led.specs.Led.{length_in}
 use Rattle.capture.specs.Capture.{front_of, records_from, sizes_of}
 use Rattle.capture.specs.Tally.{sizes_fit}
 use Rattle.season.specs.declared.Corridor.{Corridor}
 use Rattle.season.specs.declared.Boundaries.{Boundaries}
-use Rattle.season.specs.Season.{rises}
-use Rattle.summary.specs.declared.Went.TheVariants.{Well}
-use Rattle.report.specs.Report.{reporting}
 use Rattle.passing.specs.declared.Passed.{Passed}
 use Rattle.passing.specs.declared.Pass.{Pass}
 use Rattle.passing.specs.Passing.{passed_over}
 use Rattle.by_parts.specs.declared.Held.{Held}
 use Rattle.by_parts.specs.declared.SoFar.{SoFar}
 use Rattle.by_parts.specs.declared.Stage.TheVariants.{Fresh, Of, Refused}
-use Rattle.by_parts.specs.Parts.{longest_rest, is_settled, room, held_of, holding, stopped, leaving, onward, parted, ended}
-use Rattle.by_parts.specs.Cut.{too_great, unsettled_short}
+use Rattle.by_parts.specs.Parts.{is_settled, room, held_of, stopped, leaving, onward, parted}
+use Rattle.by_parts.specs.Numbered.{refusal_is}
 use Rattle.by_parts.specs.Window.{joined}
 use Rattle.by_parts.specs.Onward.{resume_left, resume_on}
 
 -- the bytes from a place on
 pub tail_is : (s : List ℕ) (n : ℕ) → take (length s - n) (drop n s) ≡ drop n s
 tail_is s n = take_all (length s - n) (drop n s) (omega (arith, length-drop n s))
-
--- whether bytes tell how their record stands
-module _ (w : ℕ) (s : List ℕ) where
-  pub tells_nothing : length s < 2 → false ≡ is_settled w s
-  tells_nothing h = sym (unsettled_short w s h)
-
-  pub tells_great : (n m : ℕ) → 2 ≤ length s → n ≡ length_in s → m ≡ longest_rest w → m < n → true ≡ is_settled w s
-  tells_great n m h e f k = sym (too_great w s h (omega (arith, e, f, k)))
-
-  pub tells_there : (n m : ℕ) → 2 ≤ length s → n ≡ length_in s → m ≡ longest_rest w → n ≤ m → leb (2 + n) (length s) ≡ is_settled w s
-  unfolding is_settled
-  tells_there n m h e f k = rw (le-leb 2 (length s) h, le-ltb (longest_rest w) (length_in s) (omega (arith, e, f, k)), e)
 
 -- what a state holds
 module _ (l : Layout) (h : Held) where
@@ -58,16 +44,8 @@ module _ (l : Layout) (h : Held) where
   pub held_count : length h.bytes ≡ room → h.len ≤ room → is_settled (width_of l) (take h.len h.bytes) ≡ false → h.len ≡ length (held_of l h)
   held_count g k e = sym (ap length (held_there k e) ∙ length-take-le h.len h.bytes (omega (arith, g, k)))
 
--- a part that is left, held or not
+-- records passed, and the rest left
 module _ (l : Layout) (c : Corridor) (b : Boundaries) (x : Passed) (s : List ℕ) where
-  pub left_told : {t : Bool} → t ≡ is_settled (width_of l) s → t ≡ true → stopped c b x 15 ≡ leaving l c b x s
-  left_told e f = rw (← e, f)
-
-  pub left_held : {t : Bool} {h : Held} → t ≡ is_settled (width_of l) s → t ≡ false → h ≡ holding s
-      → record { who = c; bounds = b; stage = Of l; passed = x; held = h } ≡ leaving l c b x s
-  left_held e f g = rw (← e, f, g)
-
-  -- records passed, and the rest left
   module _ (p : Pass) (e : p ≡ passed_over (width_of l) s c b x) where
     pub pass_fits : p.at ≤ length s
     pass_fits = rw e (sizes_fit (width_of l) x.last s)
@@ -75,14 +53,6 @@ module _ (l : Layout) (c : Corridor) (b : Boundaries) (x : Passed) (s : List ℕ
     pub on_by : (d : List ℕ) → d ≡ drop p.at s → leaving l c b p.passed d ≡ onward l c b x s
     unfolding onward
     on_by d f = rw (f, e)
-
--- bytes in front of an array
-module _ (a j : List ℕ) (n : ℕ) (e : take n a ≡ j) (f : n ≡ length j) where
-  pub window_room : n ≤ length a
-  window_room = omega (arith, f, ap length e, length-take n a)
-
-  pub window_count : n ≡ length (take n a)
-  window_count = f ∙ ap length (sym e)
 
 -- what was held and a part, by the records of the window
 module _ (l : Layout) (c : Corridor) (b : Boundaries) (x : Passed) (h p s : List ℕ) (untold : is_settled (width_of l) h ≡ false) (e : s ≡ joined h p)
@@ -130,16 +100,9 @@ front l h n g e k = go (leb h.len room) refl (is_settled (width_of l) (take h.le
           fits = omega (arith, z, m, g);
         }
 
-pub nothing_held : (l : Layout) (h : Held) (n : ℕ) (p : List ℕ) → n ≡ length (held_of l h) → n ≤ 0 → p ≡ held_of l h ++ p
-nothing_held l h n p e k = go (held_of l h) (omega (arith, e, k))
-  where
-    go : (s : List ℕ) → length s ≡ 0 → p ≡ s ++ p
-    go [] z = refl
-    go (v ∷ s) z = absurd (omega (arith, z))
-
 -- A PART, by what is known of the capture
 module _ (x : SoFar) (s : List ℕ) where
-  pub part_refused : (k : ℕ) → x.stage ≡ Refused k → x ≡ parted x s
+  pub part_refused : (k : Refusal) → x.stage ≡ Refused k → x ≡ parted x s
   unfolding parted
   part_refused k e = rw e
 
@@ -147,38 +110,16 @@ module _ (x : SoFar) (s : List ℕ) where
   unfolding parted
   part_taken l e = rw e
 
-  pub part_none : x.stage ≡ Fresh → length s < 1 → x ≡ parted x s
+  pub part_none : x.stage ≡ Fresh → eqb (length s) 0 ≡ true → x ≡ parted x s
   unfolding parted
-  part_none e h = rw (e, eq-eqb (length s) 0 (omega (arith, h)))
+  part_none e h = rw (e, h)
 
-  pub part_version : (k : ℕ) → x.stage ≡ Fresh → 1 ≤ length s → front_of s (length s) ≡ refused k → stopped x.who x.bounds x.passed k ≡ parted x s
+  pub part_version : (k : Refusal) → x.stage ≡ Fresh → eqb (length s) 0 ≡ false → front_of s (length s) ≡ refused (number_of k)
+      → stopped x.who x.bounds x.passed k ≡ parted x s
   unfolding parted
-  part_version k e h f = rw (e, ne_eqb (length s) 0 (λ z. omega (arith, h, z)), f)
+  part_version k e h f = rw (e, h, f, ← refusal_is k (number_of k) refl)
 
-  pub part_opened : (l : Layout) → x.stage ≡ Fresh → 1 ≤ length s → front_of s (length s) ≡ full l
+  pub part_opened : (l : Layout) → x.stage ≡ Fresh → eqb (length s) 0 ≡ false → front_of s (length s) ≡ full l
       → onward l x.who x.bounds x.passed (take (length s - 1) (drop 1 s)) ≡ parted x s
   unfolding parted
-  part_opened l e h f = rw (e, ne_eqb (length s) 0 (λ z. omega (arith, h, z)), f, tail_is s 1)
-
--- THE END, likewise
-module _ (x : SoFar) where
-  pub end_fresh : x.stage ≡ Fresh → reporting (refused 15) ≡ reporting (ended x)
-  unfolding ended
-  end_fresh e = rw e
-
-  pub end_refused : (k : ℕ) → x.stage ≡ Refused k → reporting (refused k) ≡ reporting (ended x)
-  unfolding ended
-  end_refused k e = rw e
-
-  module _ (l : Layout) (n : ℕ) (e : x.stage ≡ Of l) (f : n ≡ length (held_of l x.held)) where
-    pub end_cut : 0 < n → reporting (refused 15) ≡ reporting (ended x)
-    unfolding ended
-    end_cut h = rw (e, ← f, ne_eqb n 0 (λ z. omega (arith, h, z)))
-
-    pub end_level : n ≤ 0 → rises x.bounds ≡ false → reporting (refused 20) ≡ reporting (ended x)
-    unfolding ended
-    end_level h g = rw (e, ← f, eq-eqb n 0 (omega (arith, h)), g)
-
-    pub end_full : n ≤ 0 → rises x.bounds ≡ true → record { went = Well; seasons = x.passed.tally.seasons } ≡ reporting (ended x)
-    unfolding ended
-    end_full h g = rw (e, ← f, eq-eqb n 0 (omega (arith, h)), g)
+  part_opened l e h f = rw (e, h, f, tail_is s 1)

@@ -1,7 +1,6 @@
 -- What is held between two parts: at most one record less a byte, and as many.
-use Rattle.std.specs.Prelude.{ℕ, suc, ◌+◌, ◌≤◌, ◌<◌, ◌≡◌, refl, Bool, true, false, List, [], ◌∷◌, ◌++◌, length, take, drop, replicate}
+use Rattle.std.specs.Prelude.{ℕ, ◌+◌, ◌<◌, ◌≡◌, refl, Bool, true, false, List, [], ◌∷◌, ◌++◌, length, take, replicate, None}
 use Rattle.std.proofs.Common.{sym, ap, ◌∙◌, arith}
-use Rattle.std.proofs.Math.Seq.{drop-length}
 use Rattle.refusal.specs.Test.{clash}
 use Rattle.refusal.specs.Answer.{full, demand}
 use Rattle.frame.specs.Frame.{sealed, sealed_sum}
@@ -15,16 +14,13 @@ use Rattle.record.specs.Record.{Entry, record_bytes, record_at}
 use Rattle.record.specs.Again.{read_put}
 use Rattle.event.specs.Fits.{accepts}
 use Rattle.order.specs.Order.{number_by}
-use Rattle.summary.specs.declared.Seconds.TheVariants.{Absent}
-use Rattle.capture.specs.Capture.{is_version, layout_by, records_from}
-use Rattle.capture.specs.Walk.{records_cases}
+use Rattle.capture.specs.Capture.{is_version, layout_by}
 use Rattle.season.specs.declared.Corridor.{Corridor}
 use Rattle.season.specs.declared.Boundaries.{Boundaries}
 use Rattle.passing.specs.Passing.{none_passed, more_passed}
-use Rattle.by_parts.specs.declared.Stage.{Stage}
-use Rattle.by_parts.specs.declared.Stage.TheVariants.{Fresh, Of, Refused}
+use Rattle.by_parts.specs.declared.Stage.TheVariants.{Of}
 use Rattle.by_parts.specs.declared.SoFar.{SoFar}
-use Rattle.by_parts.specs.Parts.{longest_rest, is_settled, holding, held_of, onward, begun, versioned, parted, parted_all}
+use Rattle.by_parts.specs.Parts.{longest_rest, is_settled, onward, begun, versioned, parted, parted_all}
 use Rattle.by_parts.specs.Cut.{unsettled_few, unsettled_none}
 use Rattle.by_parts.specs.Onward.{onward_none}
 use Rattle.by_parts.specs.Whole.{left_of, holding_on, onward_told, onward_held, in_parts, parted_none, parted_first}
@@ -99,7 +95,7 @@ module _ (c : Corridor) (b : Boundaries) where
   holds_longest l =
       let s : List ℕ = less_a_byte (width_of l) in
       let e = untold_longest l in
-      sym (onward_none l c b none_passed s (unsettled_none (width_of l) Absent s e)) ∙ rw e
+      sym (onward_none l c b none_passed s (unsettled_none (width_of l) None s e)) ∙ rw e
 
   first_longest : (l : Layout) → parted_all (begun c b) ((version_of l ∷ less_a_byte (width_of l)) ∷ []) ≡ onward l c b none_passed (less_a_byte (width_of l))
   unfolding parted_all

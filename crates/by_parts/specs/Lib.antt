@@ -1,4 +1,5 @@
 -- what the contracts cite
+pub mod Numbered
 pub mod Parts
 pub mod Turn
 -- what is claimed of it
@@ -10,4 +11,3 @@ pub mod Cut
 pub mod Window
 pub mod Onward
 pub mod Found
-pub mod Read

@@ -1,45 +1,42 @@
 -- A report goes on with the bytes behind others as with both at once.
-use Prim.Native.Nat.{ℕ, zero, suc, ◌+◌, ◌-◌, ◌≤◌, ◌<◌}
-use Rattle.std.specs.Prelude.{◌≡◌, refl, Bool, false, length, take}
+use Prim.Native.Nat.{ℕ, ◌+◌, ◌-◌, ◌≤◌, ◌<◌}
+use Rattle.std.specs.Prelude.{◌≡◌, refl, Bool, false, length, take, Option, Some}
 use Rattle.std.proofs.Math.Path.{sym, ap}
-use Rattle.std.proofs.Common.{◌∙◌, length-append, length-take, length-drop, take-append-drop, drop_of_length-le, drop-drop, take_all, arith}
+use Rattle.std.proofs.Common.{◌∙◌, length-append, length-take, take-append-drop, drop-drop, take_all, arith}
 use Rattle.std.proofs.Math.Bool.{true}
 use mathlib.Core.List.{List, [], ◌∷◌, ◌++◌, append-nil, append_assoc}
 use Rattle.std.proofs.Math.ListN.{drop}
 use Rattle.std.proofs.lemmas.List.{drop-append-le}
 use Rattle.std.proofs.Math.Seq.{drop-append-add}
-use Rattle.refusal.specs.Test.{clash, not_both}
+use Rattle.refusal.specs.Test.{not_both}
 use Rattle.refusal.specs.Answer.{Answer, refused, full}
+use Rattle.refusal.specs.declared.Refusal.TheVariants.{BadRecord}
 use Rattle.event.specs.declared.Layout.{Layout}
 use Rattle.event.specs.declared.Layout.TheVariants.{Three, Two}
 use Rattle.event.specs.Layout.{width_of}
-use Rattle.led.specs.Led.{length_in}
 use Rattle.record.specs.Record.{Entry, record_size}
 use Rattle.record.specs.Found.{holds}
-use Rattle.summary.specs.declared.Seconds.{Seconds}
-use Rattle.summary.specs.declared.Seconds.TheVariants.{At}
 use Rattle.summary.specs.Summary.{last_from}
 use Rattle.capture.specs.Capture.{next_at, records_from, sizes_of}
-use Rattle.capture.specs.Walk.{next_is, next_fits, records_next, records_cases, sizes_append}
+use Rattle.capture.specs.Walk.{next_is, records_next, records_cases, sizes_append}
 use Rattle.capture.specs.Tally.{sizes_fit}
 use Rattle.season.specs.declared.Corridor.{Corridor}
 use Rattle.season.specs.declared.Boundaries.{Boundaries}
 use Rattle.passing.specs.declared.Passed.{Passed}
-use Rattle.passing.specs.Passing.{more_passed, passed_over}
-use Rattle.passing.specs.More.{more_append, more_none}
-use Rattle.by_parts.specs.declared.SoFar.{SoFar}
-use Rattle.by_parts.specs.Parts.{room, longest_rest, is_settled, stopped, leaving, onward}
+use Rattle.passing.specs.Passing.{more_passed}
+use Rattle.passing.specs.More.{more_append}
+use Rattle.by_parts.specs.Parts.{room, is_settled, stopped, leaving, onward}
 use Rattle.by_parts.specs.Cut.{record_less, settled_more, bad_stays, all_there, unsettled_few, records_cut}
 use Rattle.by_parts.specs.Window.{joined}
 
 -- where there are none, none comes next
-pub none_next : {P : Type 0} (w : ℕ) (last : Seconds) (s : List ℕ) → records_from w last s ≡ [] → ((k : ℕ) → next_at w last s ≡ refused k → P) → P
+pub none_next : {P : Type 0} (w : ℕ) (last : Option ℕ) (s : List ℕ) → records_from w last s ≡ [] → ((k : ℕ) → next_at w last s ≡ refused k → P) → P
 none_next {P} w last s e f = go (next_at w last s) refl
   where
     go : (a : Answer Entry) → next_at w last s ≡ a → P
     go (refused k) q = f k q
     go (full r) q =
-        let z : ◌≡◌ {A = ℕ} (length (r ∷ records_from w (At r.seconds) (drop (record_size r.datagram) s))) 0 = ap length (sym (records_next w last s r q) ∙ e) in
+        let z : ◌≡◌ {A = ℕ} (length (r ∷ records_from w (Some r.seconds) (drop (record_size r.datagram) s))) 0 = ap length (sym (records_next w last s r q) ∙ e) in
         absurd (omega (arith, z))
 
 -- behind the good records stands none
@@ -47,7 +44,7 @@ append_none : (rs qs : List Entry) → rs ≡ rs ++ qs → qs ≡ []
 append_none rs [] e = refl
 append_none rs (q ∷ qs) e = absurd (omega (arith, ap (length {A = Entry}) e, length-append rs (q ∷ qs)))
 
-pub none_behind : (w : ℕ) (last : Seconds) (s : List ℕ) → records_from w (last_from last (records_from w last s)) (drop (sizes_of (records_from w last s)) s) ≡ []
+pub none_behind : (w : ℕ) (last : Option ℕ) (s : List ℕ) → records_from w (last_from last (records_from w last s)) (drop (sizes_of (records_from w last s)) s) ≡ []
 none_behind w last s =
     let rs : List Entry = records_from w last s in
     let z : List ℕ = drop (sizes_of rs) s in
@@ -79,7 +76,7 @@ module _ (l : Layout) (c : Corridor) (b : Boundaries) where
 
   -- bytes that begin with no good record, which they tell
   pub onward_bad : (x : Passed) (s p : List ℕ) → is_settled (width_of l) s ≡ true → records_from (width_of l) x.last s ≡ []
-      → stopped c b (more_passed c b x []) 15 ≡ onward l c b x (s ++ p)
+      → stopped c b (more_passed c b x []) BadRecord ≡ onward l c b x (s ++ p)
   unfolding onward
   onward_bad x s p e n =
       none_next (width_of l) x.last s n
@@ -113,7 +110,7 @@ module _ (l : Layout) (c : Corridor) (b : Boundaries) where
     window_takes n =
         records_cases (width_of l) x.last (joined h p)
         (λ r e q.
-        let z : List Entry = records_from (width_of l) (At r.seconds) (drop (record_size r.datagram) (joined h p)) in
+        let z : List Entry = records_from (width_of l) (Some r.seconds) (drop (record_size r.datagram) (joined h p)) in
         let m : sizes_of (records_from (width_of l) x.last (joined h p)) ≡ record_size r.datagram + sizes_of z = ap sizes_of q in
         let f : record_size r.datagram ≤ length h = omega (arith, n, m) in
         let g = record_less (width_of l) h (take (room + 1 - length h) p) r (next_is (width_of l) x.last (joined h p) r e).0 f in

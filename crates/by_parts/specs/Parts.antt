@@ -2,6 +2,9 @@
 use Rattle.std.specs.Prelude.{ℕ, ◌+◌, Bool, not, ◌&&◌, ◌||◌, List, [], ◌∷◌, ◌++◌, length, take, drop, replicate, leb, ltb, eqb}
 use Rattle.refusal.specs.Test.{pick}
 use Rattle.refusal.specs.Answer.{Answer, refused, full, demand}
+use Rattle.refusal.specs.Refusals.{number_of}
+use Rattle.refusal.specs.declared.Refusal.{Refusal}
+use Rattle.refusal.specs.declared.Refusal.TheVariants.{BadRecord}
 use Rattle.lead.specs.Lead.{event_data}
 use Rattle.lent.specs.Puts.{over}
 use Rattle.event.specs.declared.Layout.{Layout}
@@ -19,6 +22,7 @@ use Rattle.by_parts.specs.declared.Held.{Held}
 use Rattle.by_parts.specs.declared.Stage.{Stage}
 use Rattle.by_parts.specs.declared.Stage.TheVariants.{Fresh, Of, Refused}
 use Rattle.by_parts.specs.declared.SoFar.{SoFar}
+use Rattle.by_parts.specs.Numbered.{refusal_of}
 
 -- WHAT IS HELD. The most bytes behind a record's length: four of seconds, and the longest event of the layout
 abbrev pub longest_rest : ℕ → ℕ
@@ -41,13 +45,13 @@ unfoldable pub held_of : Layout → Held → List ℕ
 held_of l h = pick (leb h.len room && not (is_settled (width_of l) (take h.len h.bytes))) (take h.len h.bytes) []
 
 -- A PART. The capture is refused, and nothing is held
-abbrev pub stopped : Corridor → Boundaries → Passed → ℕ → SoFar
+abbrev pub stopped : Corridor → Boundaries → Passed → Refusal → SoFar
 stopped c b x k = record { who = c; bounds = b; stage = Refused k; passed = x; held = holding [] }
 
 -- behind the good records: the rest is held, unless it tells that the next is bad
 abbrev pub leaving : Layout → Corridor → Boundaries → Passed → List ℕ → SoFar
 leaving l c b x s =
-    pick (is_settled (width_of l) s) (stopped c b x 15)
+    pick (is_settled (width_of l) s) (stopped c b x BadRecord)
     (record { who = c; bounds = b; stage = Of l; passed = x; held = holding s })
 
 -- from the place of a record on: the good records are passed, then the rest
@@ -62,7 +66,7 @@ abbrev pub begun : Corridor → Boundaries → SoFar
 begun c b = record { who = c; bounds = b; stage = Fresh; passed = none_passed; held = holding [] }
 
 abbrev pub versioned : Answer Layout → SoFar → List ℕ → SoFar
-versioned (refused k) x s = stopped x.who x.bounds x.passed k
+versioned (refused k) x s = stopped x.who x.bounds x.passed (refusal_of k)
 versioned (full l) x s = onward l x.who x.bounds x.passed (drop 1 s)
 
 -- a part of any bytes: behind a refusal no byte matters
@@ -82,7 +86,7 @@ parted_all x (p ∷ ps) = parted_all (parted x p) ps
 -- THE END. 15: no version byte, or a record cut short; then 20
 abbrev pub ended_in : Stage → SoFar → Answer (List Season)
 ended_in Fresh x = refused 15
-ended_in (Refused k) x = refused k
+ended_in (Refused k) x = refused (number_of k)
 ended_in (Of l) x = demand (eqb (length (held_of l x.held)) 0) 15 (demand (rises x.bounds) 20 (full x.passed.tally.seasons))
 
 unfoldable pub ended : SoFar → Answer (List Season)

@@ -1,19 +1,19 @@
 -- Whatever the cut, the same: after any parts a report is what it is after all of them as one, and its end is the report of document 02's
 -- W-213 over the capture that they make together.
-use Rattle.std.specs.Prelude.{ℕ, zero, suc, ◌+◌, ◌≤◌, ◌<◌, ◌≡◌, Bool, true, false, length, take, drop, replicate, leb, eqb}
+use Rattle.std.specs.Prelude.{ℕ, zero, suc, ◌+◌, ◌≤◌, ◌<◌, ◌≡◌, Bool, true, false, length, take, drop, replicate, eqb, None}
 use Rattle.std.proofs.Math.Path.{refl, ap}
-use Rattle.std.proofs.Common.{sym, ◌∙◌, le-leb, eq-eqb, ne_eqb, leb-true, leb-false, arith}
+use Rattle.std.proofs.Common.{sym, ◌∙◌, le-leb, ne_eqb, arith}
 use mathlib.Core.List.{List, [], ◌∷◌, ◌++◌, append_assoc, append-nil}
 use Rattle.std.proofs.Math.ListN.{length-drop}
 use Rattle.std.proofs.Math.Seq.{take-length}
-use Rattle.refusal.specs.Test.{pick, clash}
-use Rattle.refusal.specs.Answer.{Answer, refused, full, demand}
+use Rattle.refusal.specs.Answer.{refused, full, demand}
+use Rattle.refusal.specs.declared.Refusal.{Refusal}
+use Rattle.refusal.specs.declared.Refusal.TheVariants.{BadRecord}
 use Rattle.stream.specs.Stream.{whole}
 use Rattle.event.specs.declared.Layout.{Layout}
-use Rattle.event.specs.declared.Layout.TheVariants.{Three, Two}
+use Rattle.event.specs.declared.Layout.TheVariants.{Three}
 use Rattle.event.specs.Layout.{width_of}
 use Rattle.record.specs.Record.{Entry}
-use Rattle.summary.specs.declared.Seconds.TheVariants.{Absent}
 use Rattle.capture.specs.Capture.{is_version, layout_by, version_in, with_claim, front_of, records_from, records_in, sizes_of, walked, start, opened}
 use Rattle.capture.specs.Says.{opened_refused, opened_short, opened_open}
 use Rattle.capture.specs.Tally.{sizes_fit}
@@ -26,10 +26,11 @@ use Rattle.passing.specs.Passing.{none_passed, more_passed}
 use Rattle.passing.specs.More.{plus_in, more_none}
 use Rattle.passing.specs.Going.{few_records}
 use Rattle.report.specs.Report.{reported}
-use Rattle.by_parts.specs.declared.Stage.TheVariants.{Fresh, Of, Refused}
+use Rattle.by_parts.specs.declared.Stage.TheVariants.{Of}
 use Rattle.by_parts.specs.declared.SoFar.{SoFar}
-use Rattle.by_parts.specs.Parts.{room, longest_rest, is_settled, holding, held_of, stopped, leaving, onward, begun, versioned, parted, parted_all, ended_in, ended}
-use Rattle.by_parts.specs.Cut.{settled_cases, unsettled_few}
+use Rattle.by_parts.specs.Parts.{room, is_settled, holding, held_of, stopped, onward, begun, versioned, parted, parted_all, ended}
+use Rattle.by_parts.specs.Numbered.{refusal_of, number_refusal}
+use Rattle.by_parts.specs.Cut.{settled_cases}
 use Rattle.by_parts.specs.Window.{over_front}
 use Rattle.by_parts.specs.Onward.{none_behind, told_few, onward_cut, onward_bad}
 use Rattle.by_parts.specs.Found.{held_there}
@@ -53,7 +54,7 @@ left_of l x s = drop (sizes_of (good_in l x s)) s
 
 module _ (l : Layout) (c : Corridor) (b : Boundaries) where
   module _ (x : Passed) (s : List ℕ) where
-    pub onward_told : is_settled (width_of l) (left_of l x s) ≡ true → onward l c b x s ≡ stopped c b (more_passed c b x (good_in l x s)) 15
+    pub onward_told : is_settled (width_of l) (left_of l x s) ≡ true → onward l c b x s ≡ stopped c b (more_passed c b x (good_in l x s)) BadRecord
     unfolding onward
     onward_told e = rw e
 
@@ -61,7 +62,7 @@ module _ (l : Layout) (c : Corridor) (b : Boundaries) where
     unfolding onward
     onward_held e = rw e
 
-  pub parted_stopped : (y : Passed) (k : ℕ) (p : List ℕ) → parted (stopped c b y k) p ≡ stopped c b y k
+  pub parted_stopped : (y : Passed) (k : Refusal) (p : List ℕ) → parted (stopped c b y k) p ≡ stopped c b y k
   unfolding parted
   parted_stopped y k p = refl
 
@@ -78,8 +79,8 @@ module _ (l : Layout) (c : Corridor) (b : Boundaries) where
       go true e =
           let y : Passed = more_passed c b x (good_in l x s) in
           ap (λ (q : SoFar). parted q p) (onward_told x s e)
-          ∙ parted_stopped y 15 p
-          ∙ ap (λ (y : Passed). stopped c b y 15) (sym (more_none c b x (good_in l x s)))
+          ∙ parted_stopped y BadRecord p
+          ∙ ap (λ (y : Passed). stopped c b y BadRecord) (sym (more_none c b x (good_in l x s)))
           ∙ onward_bad l c b y (left_of l x s) p e (none_behind (width_of l) x.last s)
       go false e =
           let y : Passed = more_passed c b x (good_in l x s) in
@@ -101,9 +102,9 @@ none : (c : Corridor) (b : Boundaries) → ended (begun c b) ≡ reported [] 0 c
 unfolding ended reported version_in opened
 none c b = refl
 
-unknown : (c : Corridor) (b : Boundaries) (s : List ℕ) → front_of s (length s) ≡ refused 14 → ended (stopped c b none_passed 14) ≡ reported s (length s) c b
+unknown : (c : Corridor) (b : Boundaries) (s : List ℕ) → front_of s (length s) ≡ refused 14 → ended (stopped c b none_passed (refusal_of 14)) ≡ reported s (length s) c b
 unfolding ended reported
-unknown c b s e = rw (← opened_refused s (length s) 14 e)
+unknown c b s e = rw (number_refusal 14, ← opened_refused s (length s) 14 e)
 
 module _ (c : Corridor) (b : Boundaries) where
   pub parted_none : parted (begun c b) [] ≡ begun c b
@@ -123,7 +124,7 @@ module _ (c : Corridor) (b : Boundaries) where
           → parted (versioned (demand t 14 (full (layout_by v))) (begun c b) (v ∷ s)) p
           ≡ versioned (demand t 14 (full (layout_by v))) (begun c b) (v ∷ (s ++ p))
       go true = onward_then (layout_by v) c b none_passed s p
-      go false = parted_stopped Three c b none_passed 14 p
+      go false = parted_stopped Three c b none_passed (refusal_of 14) p
 
   -- WHATEVER THE CUT, THE SAME
   behind_parts : (s : List ℕ) (ps : List (List ℕ)) → parted_all (parted (begun c b) s) ps ≡ parted (begun c b) (s ++ whole ps)
@@ -144,7 +145,7 @@ module _ (c : Corridor) (b : Boundaries) where
     all = take-length (v ∷ s)
 
     used : (walked (width_of (layout_by v)) (take (suc (length s)) (v ∷ s)) start).used ≡ 1 + sizes_of (good_in (layout_by v) none_passed s)
-    used = ap (λ (x : List ℕ). 1 + sizes_of (records_from (width_of (layout_by v)) Absent (drop 1 x))) all
+    used = ap (λ (x : List ℕ). 1 + sizes_of (records_from (width_of (layout_by v)) None (drop 1 x))) all
 
     -- some bytes are left, and none
     short : 0 < length (left_of (layout_by v) none_passed s) → refused 15 ≡ reported (v ∷ s) (suc (length s)) c b
@@ -158,7 +159,7 @@ module _ (c : Corridor) (b : Boundaries) where
     unfolding reported
     level n =
         let k = length-drop (sizes_of (good_in (layout_by v) none_passed s)) s in
-        let f = sizes_fit (width_of (layout_by v)) Absent s in
+        let f = sizes_fit (width_of (layout_by v)) None s in
         rw (← opened_open (v ∷ s) (suc (length s)) (layout_by v) (walked (width_of (layout_by v)) (take (suc (length s)) (v ∷ s)) start) known refl (omega (arith, n, k, f, used)))
         (ap (λ (x : List ℕ). demand (rises b) 20 (full (seasons_in c b (records_in (width_of (layout_by v)) x)))) (sym all))
 
@@ -215,7 +216,7 @@ module _ (c : Corridor) (b : Boundaries) where
   stands_at v s h n =
       let l : Layout = layout_by v in
       let rs : List Entry = good_in l none_passed s in
-      let f = sizes_fit (width_of l) Absent s in
+      let f = sizes_fit (width_of l) None s in
       let k = few_records rs in
       let a : parted (begun c b) (v ∷ s) ≡ onward l c b none_passed s = parted_first v s ∙ rw h in
       let e : (parted (begun c b) (v ∷ s)).passed ≡ more_passed c b none_passed rs = ap (λ (x : SoFar). x.passed) a ∙ passed_on l s in

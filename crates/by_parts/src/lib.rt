@@ -3,20 +3,17 @@
 // less a byte. It leans on passing for the records of a part, on capture for the version, on report for what is answered. Document 02, W-213.
 #![tactic(auto)]
 
-ghost use Rattle.std.specs.Prelude.{◌≤◌, min, ◌≡◌, false, [], ◌++◌, length, take};
-ghost use Rattle.refusal.specs.Answer.{refused};
+ghost use Rattle.std.specs.Prelude.{◌≤◌, ◌≡◌, false, ◌++◌, length, take};
+ghost use Rattle.refusal.specs.Answer.{said};
 ghost use Rattle.event.specs.Layout.{width_of};
-ghost use Rattle.report.specs.Report.{reporting};
 ghost use Rattle.by_parts.specs.Parts.{room, longest_rest, is_settled, held_of, holding, leaving, onward, begun, stopped, parted, ended};
-ghost use Rattle.by_parts.specs.Turn.{how_after, turned};
+ghost use Rattle.by_parts.specs.Turn.{turned, turned_to};
 ghost use Rattle.by_parts.specs.Window.{joined};
 
-use capture::Version;
 use event::Layout;
 use passing::Passed;
-use report::Reported;
-use season::{Boundaries, Corridor};
-use summary::Went;
+use refusal::Refusal;
+use season::{Boundaries, Corridor, Season};
 
 // The most bytes that are held between two parts: those of the longest record less one. A record has a length in two bytes, seconds in
 // four, and a datagram, which has at most 62.
@@ -34,7 +31,7 @@ pub struct Held {
 pub enum Stage {
     Fresh,
     Of(Layout),
-    Refused(u8),
+    Refused(Refusal),
 }
 
 // A report between two parts: whose it is, what is known of the capture, the good records passed, and what is held of the next. It goes
@@ -48,23 +45,15 @@ pub struct SoFar {
     pub held: Held,
 }
 
-// Whether a program that reads a capture goes on reading, is at its end (or was told so much that no byte more matters), or failed to read.
-#[derive(Drop)]
-pub enum How {
-    Goes,
-    Ended,
-    Failed,
-}
-
-// What a read makes of a report.
-#[derive(Drop)]
-pub struct Turned {
-    pub how: How,
-    pub so_far: SoFar,
+// What a read makes of a report: a program goes on reading, or is at the end of the capture (or was told so much that no byte more matters).
+#[derive(Clone, Copy)]
+pub enum Turned {
+    Goes(SoFar),
+    Ended(SoFar),
 }
 
 // Bytes held and some behind them, as one record and more can need.
-#[derive(Drop)]
+#[derive(Clone, Copy)]
 struct Window {
     bytes: [u8; ROOM + 1],
     len: usize,
@@ -89,10 +78,7 @@ pub fn begin(who: Corridor, bounds: Boundaries) -> SoFar
         bounds,
         stage: Stage::Fresh,
         passed: passing::nothing(),
-        held: Held {
-            bytes: [0u8; ROOM],
-            len: 0,
-        },
+        held: hold(b""),
     }
 }
 
@@ -107,6 +93,7 @@ fn longest_rest(layout: Layout) -> usize
 }
 
 // Whether some bytes tell how the record that begins with them stands: its length is there, and no record has so many bytes, or all are there.
+#[tactic(auto, unfolding(crate::specs::Parts::is_settled))]
 fn is_settled(layout: Layout, s: &[u8]) -> bool
     ensures { result ≡ is_settled (width_of layout) s.now }
 {
@@ -114,52 +101,48 @@ fn is_settled(layout: Layout, s: &[u8]) -> bool
         return false;
     }
     let n = order::high_first(s[0], s[1]) as usize;
-    if longest_rest(layout) < n {
-        return true;
-    }
-    led::LEAD + n <= s.len()
+    longest_rest(layout) < n || led::LEAD + n <= s.len()
 }
 
 // A report of a capture that is refused.
-fn stop(who: Corridor, bounds: Boundaries, passed: Passed, k: u8) -> SoFar
-    ensures { result ≡ stopped who bounds passed k }
+fn stop(x: SoFar, refusal: Refusal) -> SoFar
+    ensures { result ≡ stopped x.who x.bounds x.passed refusal }
 {
     SoFar {
-        who,
-        bounds,
-        stage: Stage::Refused(k),
-        passed,
-        held: Held {
-            bytes: [0u8; ROOM],
-            len: 0,
-        },
+        stage: Stage::Refused(refusal),
+        held: hold(b""),
+        ..x
     }
 }
 
 // What is left behind the good records, at whose front stands none: it is held, unless it tells that the next is bad.
-fn leave(layout: Layout, who: Corridor, bounds: Boundaries, passed: Passed, s: &[u8]) -> SoFar
-    ensures { result ≡ leaving layout who bounds passed s.now }
+#[tactic(auto, using(crate::specs::Onward::told_few))]
+fn leave(layout: Layout, x: SoFar, s: &[u8]) -> SoFar
+    ensures { result ≡ leaving layout x.who x.bounds x.passed s.now }
 {
     if is_settled(layout, s) {
-        return stop(who, bounds, passed, 15);
+        return stop(x, Refusal::BadRecord);
     }
     SoFar {
-        who,
-        bounds,
         stage: Stage::Of(layout),
-        passed,
         held: hold(s),
+        ..x
     }
 }
 
 // From the place of a record on.
-fn go_on(layout: Layout, who: Corridor, bounds: Boundaries, passed: Passed, s: &[u8]) -> SoFar
-    ensures { result ≡ onward layout who bounds passed s.now }
+fn go_on(layout: Layout, x: SoFar, s: &[u8]) -> SoFar
+    ensures { result ≡ onward layout x.who x.bounds x.passed s.now }
 {
-    let p = passing::over(layout, s, who, bounds, passed);
-    let at = p.at;
-    let now = p.passed;
-    leave(layout, who, bounds, now, &s[at..])
+    let p = passing::over(layout, s, x.who, x.bounds, x.passed);
+    leave(
+        layout,
+        SoFar {
+            passed: p.passed,
+            ..x
+        },
+        &s[p.at..],
+    )
 }
 
 // The bytes held, and behind them as many of the part as a record can need.
@@ -167,8 +150,7 @@ fn join(held: &[u8], part: &[u8]) -> Window
     requires { length held.now ≤ room }
     ensures { (take result.len result.bytes ≡ joined held.now part.now) × (result.len ≡ length (joined held.now part.now)) }
 {
-    let free = ROOM + 1 - held.len();
-    let t = if part.len() < free { part.len() } else { free };
+    let t = part.len().min(ROOM + 1 - held.len());
     let mut bytes = [0u8; ROOM + 1];
     let n = lent::word(&mut bytes, 0, held);
     let len = lent::word(&mut bytes, n, &part[..t]);
@@ -176,154 +158,105 @@ fn join(held: &[u8], part: &[u8]) -> Window
 }
 
 // From bytes on that are held, and tell nothing yet.
-fn resume(
-    layout: Layout,
-    who: Corridor,
-    bounds: Boundaries,
-    passed: Passed,
-    held: &[u8],
-    part: &[u8],
-) -> SoFar
+fn resume(layout: Layout, x: SoFar, held: &[u8], part: &[u8]) -> SoFar
     requires { is_settled (width_of layout) held.now ≡ false }
-    ensures { result ≡ onward layout who bounds passed (held.now ++ part.now) }
+    ensures { result ≡ onward layout x.who x.bounds x.passed (held.now ++ part.now) }
 {
     let n = held.len();
     let w = join(held, part);
-    let bytes = w.bytes;
-    let e = w.len;
-    let s = &bytes[..e];
-    let p = passing::over(layout, s, who, bounds, passed);
-    let now = p.passed;
+    let s = &w.bytes[..w.len];
+    let p = passing::over(layout, s, x.who, x.bounds, x.passed);
+    let y = SoFar {
+        passed: p.passed,
+        ..x
+    };
     if p.at < n {
-        return leave(layout, who, bounds, now, s);
+        return leave(layout, y, s);
     }
-    let t = p.at - n;
-    go_on(layout, who, bounds, now, &part[t..])
+    go_on(layout, y, &part[p.at - n..])
 }
 
 // How many bytes are held: none where a state claims more than can be, or bytes that tell how their record stands.
 fn holds(layout: Layout, h: Held) -> usize
     ensures { result ≡ length (held_of layout h) }
 {
-    let n = h.len;
-    if ROOM < n {
-        return 0;
+    if ROOM < h.len || is_settled(layout, &h.bytes[..h.len]) {
+        0
+    } else {
+        h.len
     }
-    let bytes = h.bytes;
-    if is_settled(layout, &bytes[..n]) {
-        return 0;
-    }
-    n
 }
 
 // A part of a capture whose layout is known.
 fn take_in(layout: Layout, x: SoFar, part: &[u8]) -> SoFar
     ensures { result ≡ onward layout x.who x.bounds x.passed (held_of layout x.held ++ part.now) }
 {
-    let who = x.who;
-    let bounds = x.bounds;
-    let passed = x.passed;
-    let held = x.held;
-    let n = holds(layout, held);
+    let n = holds(layout, x.held);
     if 0 < n {
-        let bytes = held.bytes;
-        return resume(layout, who, bounds, passed, &bytes[..n], part);
+        return resume(layout, x, &x.held.bytes[..n], part);
     }
-    go_on(layout, who, bounds, passed, part)
+    go_on(layout, x, part)
 }
 
 // Takes the next part of a capture, of any bytes or none.
 pub fn part(x: SoFar, s: &[u8]) -> SoFar
     ensures { result ≡ parted x s.now }
 {
-    let stage = x.stage;
-    match stage {
+    match x.stage {
         Stage::Refused(_) => x,
         Stage::Of(layout) => take_in(layout, x, s),
         Stage::Fresh => {
-            if s.len() < 1 {
+            if s.is_empty() {
                 return x;
             }
-            let who = x.who;
-            let bounds = x.bounds;
-            let passed = x.passed;
-            let v = capture::front(s, s.len());
-            match v {
-                Version::Refused(k) => stop(who, bounds, passed, k),
-                Version::Of(layout) => go_on(layout, who, bounds, passed, &s[1..]),
+            match capture::front(s, s.len()) {
+                Ok(layout) => go_on(layout, x, &s[1..]),
+                Err(refusal) => stop(x, refusal),
             }
         }
     }
 }
 
 // The report, where no more parts come. It changes nothing, so that it may be asked after any part.
-pub fn end(x: SoFar) -> Reported
-    ensures { result ≡ reporting (ended x) }
+#[tactic(auto, unfolding(crate::specs::Parts::ended))]
+pub fn end(x: SoFar) -> Result<[Season; tally::SEASONS], Refusal>
+    ensures { said result ≡ ended x }
 {
-    let stage = x.stage;
-    match stage {
-        Stage::Fresh => report::refuse(15),
-        Stage::Refused(k) => report::refuse(k),
-        Stage::Of(layout) => {
-            let held = x.held;
-            if 0 < holds(layout, held) {
-                return report::refuse(15);
-            }
-            let bounds = x.bounds;
-            if !season::rising(bounds) {
-                return report::refuse(20);
-            }
-            let passed = x.passed;
-            let tally = passed.tally;
-            let seasons = tally.seasons;
-            Reported {
-                went: Went::Well,
-                seasons,
-            }
-        }
+    let layout = match x.stage {
+        Stage::Fresh => return Err(Refusal::BadRecord),
+        Stage::Refused(refusal) => return Err(refusal),
+        Stage::Of(layout) => layout,
+    };
+    if 0 < holds(layout, x.held) {
+        return Err(Refusal::BadRecord);
+    }
+    if !season::rising(x.bounds) {
+        return Err(Refusal::NotRising);
+    }
+    Ok(x.passed.tally.seasons)
+}
+
+// Whether a program goes on behind a part: where the capture is refused no byte more matters.
+fn turn_to(x: SoFar) -> Turned
+    ensures { result ≡ turned_to x }
+{
+    match x.stage {
+        Stage::Fresh | Stage::Of(_) => Turned::Goes(x),
+        Stage::Refused(_) => Turned::Ended(x),
     }
 }
 
-fn least(a: usize, b: usize) -> usize
-    ensures { result ≡ min a b }
-{
-    if a < b { a } else { b }
-}
-
-// Whether a program goes on behind a part.
-fn after(stage: Stage) -> How
-    ensures { result ≡ how_after stage }
-{
-    match stage {
-        Stage::Fresh => How::Goes,
-        Stage::Of(_) => How::Goes,
-        Stage::Refused(_) => How::Ended,
-    }
-}
-
-// What a read into a buffer makes of a report, by what it answered: a negative number is a failure, and no end of the capture; no byte is
-// its end; else so many bytes of the buffer are its next part, and where they tell that it is refused no byte more matters.
-pub fn turn(x: SoFar, got: isize, buf: &[u8]) -> Turned
+// What a read into a buffer makes of a report, by what it answered: a negative number is a failure, of which nothing is made, and no end of
+// the capture; no byte is its end; else so many bytes of the buffer are its next part.
+pub fn turn(x: SoFar, got: isize, buf: &[u8]) -> Option<Turned>
     ensures { result ≡ turned x got buf.now }
 {
     if got < 0 {
-        return Turned {
-            how: How::Failed,
-            so_far: x,
-        };
+        return None;
     }
     let n = got as usize;
     if n == 0 {
-        return Turned {
-            how: How::Ended,
-            so_far: x,
-        };
+        return Some(Turned::Ended(x));
     }
-    let e = least(n, buf.len());
-    let y = part(x, &buf[..e]);
-    let stage = y.stage;
-    Turned {
-        how: after(stage),
-        so_far: y,
-    }
+    Some(turn_to(part(x, &buf[..n.min(buf.len())])))
 }

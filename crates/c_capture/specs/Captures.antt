@@ -1,15 +1,13 @@
 -- Marks and summaries as another language hands them in and is handed them back, beside a refusal.
-use Rattle.std.specs.Prelude.{ℕ, ◌≡◌, List}
+use Rattle.std.specs.Prelude.{ℕ, None, ◌≡◌, List, []}
 use Rattle.refusal.specs.Answer.{Answer, refused, full}
 use Rattle.summary.specs.declared.Summary.{Summary}
-use Rattle.summary.specs.declared.Counting.{Counting}
-use Rattle.summary.specs.declared.Went.{Went}
-use Rattle.summary.specs.declared.Went.TheVariants.{Well, Refused}
 use Rattle.capture.specs.declared.Mark.{Mark}
-use Rattle.capture.specs.declared.Found.{Found}
-use Rattle.capture.specs.Capture.{found, nothing_kept}
+use Rattle.summary.specs.Summary.{counted_in}
+use Rattle.capture.specs.declared.Kept.{Kept}
+use Rattle.capture.specs.Capture.{nothing_kept}
 use Rattle.append.specs.declared.Appended.{Appended}
-use Rattle.append.specs.Append.{emptied, empty_left, verdict_at, handed, verdict, appended_to, left_by}
+use Rattle.append.specs.Append.{emptied, empty_left, verdict_at, handed, verdict, appended_to, left_by, stands_after}
 use Rattle.morning.specs.declared.Ran.{Ran}
 use Rattle.morning.specs.declared.RanAt.{RanAt}
 use Rattle.morning.specs.Morning.{ran, ran_out, ran_left, ran_at, ran_at_out, ran_at_left}
@@ -45,57 +43,65 @@ abbrev pub mark_out : Mark → WickMark
 mark_out m = record { used = m.used; has_last = time_is m.last; last = time_no m.last }
 
 -- the number of a refusal, 0 where there is none
-abbrev pub went_no : Went → ℕ
-went_no Well = 0
-went_no (Refused k) = k
+abbrev pub went_no : {A : Type 0} → Answer A → ℕ
+went_no (full y) = 0
+went_no (refused k) = k
 
--- what stands beside it: mark and summary, bytes in use and summary, a mark, a summary
-abbrev pub found_out : Found → WickCapture
-found_out f = record { refusal = went_no f.went; mark = mark_out f.kept.mark; summary = summary_out f.kept.summary }
+-- what stands beside it: what was answered, or, beside a refusal, what is handed here: mark and summary,
+abbrev pub found_out : Answer Kept → Kept → WickCapture
+found_out a x =
+    let k = stands_after a x in
+    record { refusal = went_no a; mark = mark_out k.mark; summary = summary_out k.summary }
 
-abbrev pub appended_out : Appended → WickAppended
-appended_out a = record { refusal = went_no a.went; used = a.used; summary = summary_out a.summary }
+-- bytes in use and summary,
+abbrev pub appended_out : Answer Appended → ℕ → Summary → WickAppended
+appended_out a u x =
+    let k = stands_after a (record { used = u; summary = x }) in
+    record { refusal = went_no a; used = k.used; summary = summary_out k.summary }
 
--- of a run, beside how many went in and how many were refused
-abbrev pub run_out : Ran → WickRan
-run_out r = record { refusal = went_no r.went; entered = r.entered; refused = r.refused; used = r.used; summary = summary_out r.summary }
+-- of a run, beside how many went in and how many were refused,
+abbrev pub run_out : Answer Ran → ℕ → Summary → WickRan
+run_out a u x =
+    let r = stands_after a (record { entered = 0; refused = 0; used = u; summary = x }) in
+    record { refusal = went_no a; entered = r.entered; refused = r.refused; used = r.used; summary = summary_out r.summary }
 
-abbrev pub run_at_out : RanAt → WickRanAt
-run_at_out r =
+abbrev pub run_at_out : Answer RanAt → Mark → Summary → WickRanAt
+run_at_out a m x =
+    let r = stands_after a (record { entered = 0; refused = 0; kept = record { mark = m; summary = x } }) in
     record {
-      refusal = went_no r.went;
+      refusal = went_no a;
       entered = r.entered;
       refused = r.refused;
       mark = mark_out r.kept.mark;
       summary = summary_out r.kept.summary;
     }
 
+-- a mark, beside a refusal one of nothing, and the summary of a count, beside a refusal that of no records
 abbrev pub opened_out : Answer Mark → WickOpened
-opened_out (refused k) = record { refusal = k; mark = record { used = 0; has_last = 0; last = 0 } }
-opened_out (full m) = record { refusal = 0; mark = mark_out m }
+opened_out a = record { refusal = went_no a; mark = mark_out (stands_after a (record { used = 0; last = None })) }
 
-abbrev pub counted_out : Counting → WickCounted
-counted_out c = record { refusal = went_no c.went; summary = summary_out c.summary }
+abbrev pub counted_out : Answer Summary → WickCounted
+counted_out a = record { refusal = went_no a; summary = summary_out (stands_after a (counted_in [])) }
 
 -- the contract of emptying: what is handed over, and every byte of the buffer
 pub record EmptiesOut (b : List ℕ) (v : ℕ) (w : WickCapture) (b' : List ℕ) : Type 0 where
-  pub says : w ≡ found_out (found (emptied b v) nothing_kept)
+  pub says : w ≡ found_out (emptied b v) nothing_kept
   pub leaves : b' ≡ empty_left (emptied b v) b v
 
 -- of an append by a mark and by the letter, of what was handed in
 pub record AppendsAtOut (b : List ℕ) (m : Mark) (x : Summary) (t : ℕ) (d : List ℕ) (w : WickCapture) (b' : List ℕ) : Type 0 where
-  pub says : w ≡ found_out (found (handed (verdict_at b m x t d) m.used t d) (record { mark = m; summary = x }))
+  pub says : w ≡ found_out (handed (verdict_at b m x t d) m.used t d) (record { mark = m; summary = x })
   pub leaves : b' ≡ left_by (verdict_at b m x t d) b m.used t d
 
 pub record AppendsOut (b : List ℕ) (u : ℕ) (x : Summary) (t : ℕ) (d : List ℕ) (w : WickAppended) (b' : List ℕ) : Type 0 where
-  pub says : w ≡ appended_out (appended_to (verdict b u x t d) u x t d)
+  pub says : w ≡ appended_out (appended_to (verdict b u x t d) u d) u x
   pub leaves : b' ≡ left_by (verdict b u x t d) b u t d
 
 -- of a run by the letter and by a mark
 pub record RunsOut (b : List ℕ) (u : ℕ) (x : Summary) (t : ℕ) (run : List ℕ) (w : WickRan) (b' : List ℕ) : Type 0 where
-  pub says : w ≡ run_out (ran_out (ran b u x t run) u x)
+  pub says : w ≡ run_out (ran_out (ran b u x t run)) u x
   pub leaves : b' ≡ ran_left (ran b u x t run) b
 
 pub record RunsAtOut (b : List ℕ) (m : Mark) (x : Summary) (t : ℕ) (run : List ℕ) (w : WickRanAt) (b' : List ℕ) : Type 0 where
-  pub says : w ≡ run_at_out (ran_at_out (ran_at b m x t run) m x)
+  pub says : w ≡ run_at_out (ran_at_out (ran_at b m x t run)) m x
   pub leaves : b' ≡ ran_at_left (ran_at b m x t run) b

@@ -5,15 +5,18 @@
 #![tactic(auto)]
 
 ghost use Rattle.std.specs.Prelude.{◌-◌, ◌≡◌};
-ghost use Rattle.capture.specs.Capture.{said_opening, said_step};
+ghost use Rattle.refusal.specs.Answer.{said, said_of};
+ghost use Rattle.record.specs.Record.{said_stored};
 ghost use Rattle.c_capture.specs.Times.{time_in, time_is, time_no};
 ghost use Rattle.c_capture.specs.Captures.{summary_in, summary_out, mark_in, mark_out, went_no, found_out, appended_out, run_out, run_at_out, opened_out, counted_out};
 ghost use Rattle.c_capture.specs.Records.{stood_out};
 
 use append::Appended;
-use capture::{Found, Mark, Next, Opening};
+use capture::{Kept, Mark};
 use morning::{Ran, RanAt};
-use summary::{Counting, Seconds, Summary, Went};
+use record::Stored;
+use refusal::Refusal;
+use summary::Summary;
 
 // A summary of records: how many there are, the first and the last seconds, and how many of each event type.
 #[repr(C)]
@@ -104,38 +107,29 @@ pub struct WickRecord {
 }
 
 // A time by its flag, and back.
-pub fn time_in(has: u8, seconds: u32) -> Seconds
+pub fn time_in(has: u8, seconds: u32) -> Option<u32>
     ensures { result ≡ time_in has seconds }
 {
-    if has == 0 {
-        Seconds::Absent
-    } else {
-        Seconds::At(seconds)
-    }
+    if has == 0 { None } else { Some(seconds) }
 }
 
-pub fn time_is(s: Seconds) -> u8
+pub fn time_is(s: Option<u32>) -> u8
     ensures { result ≡ time_is s }
 {
-    match s {
-        Seconds::Absent => 0,
-        Seconds::At(_) => 1,
-    }
+    s.is_some() as u8
 }
 
-pub fn time_no(s: Seconds) -> u32
+pub fn time_no(s: Option<u32>) -> u32
     ensures { result ≡ time_no s }
 {
-    match s {
-        Seconds::Absent => 0,
-        Seconds::At(t) => t,
-    }
+    s.unwrap_or(0)
 }
 
 // A summary of crate summary, and back.
 pub fn summary_in(w: WickSummary) -> Summary
     ensures { result ≡ summary_in w }
 {
+    // the borrow checker takes an array from a field by a variable only
     let counts = w.counts;
     Summary {
         records: w.records,
@@ -148,15 +142,13 @@ pub fn summary_in(w: WickSummary) -> Summary
 fn summary_out(x: Summary) -> WickSummary
     ensures { result ≡ summary_out x }
 {
-    let first = x.first;
-    let last = x.last;
     let counts = x.counts;
     WickSummary {
         records: x.records,
-        has_first: time_is(first),
-        has_last: time_is(last),
-        first: time_no(first),
-        last: time_no(last),
+        has_first: time_is(x.first),
+        has_last: time_is(x.last),
+        first: time_no(x.first),
+        last: time_no(x.last),
         counts,
     }
 }
@@ -174,113 +166,112 @@ pub fn mark_in(w: WickMark) -> Mark
 fn mark_out(m: Mark) -> WickMark
     ensures { result ≡ mark_out m }
 {
-    let last = m.last;
     WickMark {
         used: m.used,
-        has_last: time_is(last),
-        last: time_no(last),
+        has_last: time_is(m.last),
+        last: time_no(m.last),
     }
 }
 
 // The number of a refusal, 0 where a call went well.
-pub fn went_no(w: Went) -> u8
-    ensures { result ≡ went_no w }
+pub fn went_no<T>(r: &Result<T, Refusal>) -> u8
+    ensures { result ≡ went_no (said r.now) }
 {
-    match w {
-        Went::Well => 0,
-        Went::Refused(k) => k,
+    match r {
+        Ok(_) => 0,
+        Err(k) => k.number(),
     }
 }
 
-// Mark and summary of a capture that was emptied, appended to by a mark, or found at the front of some bytes.
-pub fn found_out(f: Found) -> WickCapture
-    ensures { result ≡ found_out f }
+// Mark and summary of a capture that was emptied, appended to by a mark, or found at the front of some bytes; beside a refusal stand these.
+pub fn found_out(r: Result<Kept, Refusal>, or: Kept) -> WickCapture
+    ensures { result ≡ found_out (said r) or }
 {
-    let went = f.went;
-    let kept = f.kept;
-    let mark = kept.mark;
-    let summary = kept.summary;
+    let refusal = went_no(&r);
+    let kept = r.unwrap_or(or);
     WickCapture {
-        refusal: went_no(went),
-        mark: mark_out(mark),
-        summary: summary_out(summary),
+        refusal,
+        mark: mark_out(kept.mark),
+        summary: summary_out(kept.summary),
     }
 }
 
-// What an append by the letter answers.
-pub fn appended_out(a: Appended) -> WickAppended
-    ensures { result ≡ appended_out a }
+// What an append by the letter answers; beside a refusal stand the bytes in use and the summary that were handed in.
+pub fn appended_out(r: Result<Appended, Refusal>, used: usize, x: Summary) -> WickAppended
+    ensures { result ≡ appended_out (said r) used x }
 {
-    let went = a.went;
-    let summary = a.summary;
+    let refusal = went_no(&r);
+    let a = r.unwrap_or(Appended { used, summary: x });
     WickAppended {
-        refusal: went_no(went),
+        refusal,
         used: a.used,
-        summary: summary_out(summary),
+        summary: summary_out(a.summary),
     }
 }
 
-// What a run by the letter answers.
-pub fn ran_out(r: Ran) -> WickRan
-    ensures { result ≡ run_out r }
+// What a run by the letter answers; beside a refusal of the whole call none and none, and what was handed in.
+pub fn ran_out(r: Result<Ran, Refusal>, used: usize, x: Summary) -> WickRan
+    ensures { result ≡ run_out (said r) used x }
 {
-    let went = r.went;
-    let summary = r.summary;
+    let refusal = went_no(&r);
+    let r = r.unwrap_or(Ran {
+        entered: 0,
+        refused: 0,
+        used,
+        summary: x,
+    });
     WickRan {
-        refusal: went_no(went),
+        refusal,
         entered: r.entered,
         refused: r.refused,
         used: r.used,
-        summary: summary_out(summary),
+        summary: summary_out(r.summary),
     }
 }
 
-// What a run by a mark answers.
-pub fn ran_at_out(a: RanAt) -> WickRanAt
-    ensures { result ≡ run_at_out a }
+// What a run by a mark answers; beside a refusal of the whole call none and none, and what was handed in.
+pub fn ran_at_out(r: Result<RanAt, Refusal>, mark: Mark, x: Summary) -> WickRanAt
+    ensures { result ≡ run_at_out (said r) mark x }
 {
-    let went = a.went;
-    let kept = a.kept;
-    let mark = kept.mark;
-    let summary = kept.summary;
+    let refusal = went_no(&r);
+    let a = r.unwrap_or(RanAt {
+        entered: 0,
+        refused: 0,
+        kept: Kept { mark, summary: x },
+    });
     WickRanAt {
-        refusal: went_no(went),
+        refusal,
         entered: a.entered,
         refused: a.refused,
+        mark: mark_out(a.kept.mark),
+        summary: summary_out(a.kept.summary),
+    }
+}
+
+// What opening a capture answers; beside a refusal stands a mark of nothing.
+pub fn opened_out(r: Result<Mark, Refusal>) -> WickOpened
+    ensures { result ≡ opened_out (said r) }
+{
+    let refusal = went_no(&r);
+    let mark = r.unwrap_or(Mark {
+        used: 0,
+        last: None,
+    });
+    WickOpened {
+        refusal,
         mark: mark_out(mark),
-        summary: summary_out(summary),
     }
 }
 
-// What opening a capture answers.
-pub fn opened_out(o: Opening) -> WickOpened
-    ensures { result ≡ opened_out (said_opening o) }
+// What counting a capture afresh answers; beside a refusal stands the summary of no records.
+pub fn counted_out(r: Result<Summary, Refusal>) -> WickCounted
+    ensures { result ≡ counted_out (said r) }
 {
-    match o {
-        Opening::Open(mark) => WickOpened {
-            refusal: 0,
-            mark: mark_out(mark),
-        },
-        Opening::Refused(k) => WickOpened {
-            refusal: k,
-            mark: WickMark {
-                used: 0,
-                has_last: 0,
-                last: 0,
-            },
-        },
-    }
-}
-
-// What counting a capture afresh answers.
-pub fn counted_out(c: Counting) -> WickCounted
-    ensures { result ≡ counted_out c }
-{
-    let went = c.went;
-    let summary = c.summary;
+    let refusal = went_no(&r);
+    let x = r.unwrap_or(summary::nothing());
     WickCounted {
-        refusal: went_no(went),
-        summary: summary_out(summary),
+        refusal,
+        summary: summary_out(x),
     }
 }
 
@@ -288,22 +279,15 @@ pub fn counted_out(c: Counting) -> WickCounted
 fn size_between(place: usize, next: usize) -> usize
     ensures { result ≡ next - 6 - place }
 {
-    if next < record::HEAD {
-        return 0;
-    }
-    let most = next - record::HEAD;
-    if most < place {
-        return 0;
-    }
-    most - place
+    next.saturating_sub(record::HEAD).saturating_sub(place)
 }
 
-// The record that begins at a place.
-pub fn record_out(place: usize, r: Next) -> WickRecord
-    ensures { result ≡ stood_out place (said_step r) }
+// The record that begins at a place; every field beside a refusal is 0.
+pub fn record_out(place: usize, r: Result<Stored, Refusal>) -> WickRecord
+    ensures { result ≡ stood_out place (said_of said_stored r) }
 {
     match r {
-        Next::Record(x) => {
+        Ok(x) => {
             let n = size_between(place, x.next);
             WickRecord {
                 refusal: 0,
@@ -313,8 +297,8 @@ pub fn record_out(place: usize, r: Next) -> WickRecord
                 next: x.next,
             }
         }
-        Next::Refused(k) => WickRecord {
-            refusal: k,
+        Err(k) => WickRecord {
+            refusal: k.number(),
             seconds: 0,
             datagram_at: 0,
             n: 0,

@@ -1,20 +1,21 @@
 // Clocks of Domintell sites as programs in C have them: the structs that crate wickanchor takes and hands over, laid out as C does, and what turns the
 // answers of crates clock_text and clock_day into them, and a clock back, which crate clock_write writes. A refusal is its number by document 02, 0 stands for
-// none, and every other field of a refused call is 0. Each contract is an equation over what the answer says. Document 02, W-214.
+// none, and every other field of a refused call is 0: a number beside a value stays in these structs, since include/wickanchor.h lays them out so. Each
+// contract is an equation over what the answer says. Document 02, W-214.
 #![tactic(auto)]
 
 ghost use Rattle.std.specs.Prelude.{◌≡◌};
-ghost use Rattle.clock_text.specs.Clock.{said as saidClock};
-ghost use Rattle.clock_day.specs.Day.{said as saidRun};
+ghost use Rattle.refusal.specs.Answer.{said, said_of};
+ghost use Rattle.clock_day.specs.Day.{day_said};
 ghost use Rattle.c_clock.specs.Clocks.{offset_no, offset_by, clock_out, read_out, offset_in, clock_in, not_running, runs_out};
 
-use clock_day::Run;
-use clock_text::{Clock, Offset, Reading, Time};
+use clock_text::{Clock, Offset, Time};
+use refusal::Refusal;
 
 // A clock: its time, the bits of its weekdays, day, month and year of its restriction, each 0 for none, and its offset, 0 is none, 1 later, 2 earlier, with
 // its span, 0 where there is none.
 #[repr(C)]
-#[derive(Drop)]
+#[derive(Clone, Copy)]
 pub struct WickClock {
     pub hour: u8,
     pub minute: u8,
@@ -31,7 +32,7 @@ pub struct WickClock {
 
 // What reading a clock's text gives.
 #[repr(C)]
-#[derive(Drop)]
+#[derive(Clone, Copy)]
 pub struct WickClockRead {
     pub refusal: u8,
     pub clock: WickClock,
@@ -39,7 +40,7 @@ pub struct WickClockRead {
 
 // Whether a clock runs on a day, and at which second from midnight, 0 where it does not.
 #[repr(C)]
-#[derive(Drop)]
+#[derive(Clone, Copy)]
 pub struct WickClockRuns {
     pub refusal: u8,
     pub runs: u8,
@@ -66,8 +67,7 @@ fn offset_by(o: Offset) -> Time
             minute: 0,
             second: 0,
         },
-        Offset::Later(t) => t,
-        Offset::Earlier(t) => t,
+        Offset::Later(t) | Offset::Earlier(t) => t,
     }
 }
 
@@ -75,18 +75,16 @@ fn offset_by(o: Offset) -> Time
 fn clock_out(c: Clock) -> WickClock
     ensures { result ≡ clock_out c }
 {
-    let time = c.time;
-    let offset = c.offset;
-    let by = offset_by(offset);
+    let by = offset_by(c.offset);
     WickClock {
-        hour: time.hour,
-        minute: time.minute,
-        second: time.second,
+        hour: c.time.hour,
+        minute: c.time.minute,
+        second: c.time.second,
         weekdays: c.weekdays,
         day: c.day,
         month: c.month,
         year: c.year,
-        offset: offset_no(offset),
+        offset: offset_no(c.offset),
         offset_hour: by.hour,
         offset_minute: by.minute,
         offset_second: by.second,
@@ -94,16 +92,16 @@ fn clock_out(c: Clock) -> WickClock
 }
 
 // What reading a clock's text answers.
-pub fn read_out(r: Reading) -> WickClockRead
-    ensures { result ≡ read_out (saidClock r) }
+pub fn read_out(r: Result<Clock, Refusal>) -> WickClockRead
+    ensures { result ≡ read_out (said r) }
 {
     match r {
-        Reading::Accepted(c) => WickClockRead {
+        Ok(c) => WickClockRead {
             refusal: 0,
             clock: clock_out(c),
         },
-        Reading::Refused(k) => WickClockRead {
-            refusal: k,
+        Err(k) => WickClockRead {
+            refusal: k.number(),
             clock: WickClock {
                 hour: 0,
                 minute: 0,
@@ -125,13 +123,10 @@ pub fn read_out(r: Reading) -> WickClockRead
 fn offset_in(n: u8, by: Time) -> Offset
     ensures { result ≡ offset_in n by }
 {
-    if n == 0 {
-        return Offset::Absent;
-    }
-    if n == 1 {
-        Offset::Later(by)
-    } else {
-        Offset::Earlier(by)
+    match n {
+        0 => Offset::Absent,
+        1 => Offset::Later(by),
+        _ => Offset::Earlier(by),
     }
 }
 
@@ -170,16 +165,16 @@ fn not_running(refusal: u8) -> WickClockRuns
 }
 
 // What a clock does on a day.
-pub fn runs_out(r: Run) -> WickClockRuns
-    ensures { result ≡ runs_out (saidRun r) }
+pub fn runs_out(r: Result<Option<i32>, Refusal>) -> WickClockRuns
+    ensures { result ≡ runs_out (said_of day_said r) }
 {
     match r {
-        Run::At(second) => WickClockRuns {
+        Ok(Some(second)) => WickClockRuns {
             refusal: 0,
             runs: 1,
             second,
         },
-        Run::Idle => not_running(0),
-        Run::Refused(k) => not_running(k),
+        Ok(None) => not_running(0),
+        Err(k) => not_running(k.number()),
     }
 }

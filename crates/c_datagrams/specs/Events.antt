@@ -1,20 +1,20 @@
 -- An event as another language is handed it. Its data are told by where they begin and how many they are.
-use Rattle.std.specs.Prelude.{ℕ}
+use Rattle.std.specs.Prelude.{ℕ, Option, Some, None}
 use Rattle.refusal.specs.Answer.{Answer, refused, full}
 use Rattle.event.specs.declared.Mac.{Mac}
-use Rattle.event_type.specs.Types.{kind_number, Carried, carried, none}
+use Rattle.event_type.specs.Types.{kind_number}
 use Rattle.event.specs.Reading.{Told, start_in}
 use Rattle.c_datagrams.specs.declared.WickMac.{WickMac}
 use Rattle.c_datagrams.specs.declared.WickEvent.{WickEvent}
 
 -- an instance, and whether there is one
-abbrev pub instance_no : Carried → ℕ
-instance_no (carried i) = i
-instance_no none = 0
+abbrev pub instance_no : Option ℕ → ℕ
+instance_no (Some i) = i
+instance_no None = 0
 
-abbrev pub instance_is : Carried → ℕ
-instance_is (carried i) = 1
-instance_is none = 0
+abbrev pub instance_is : Option ℕ → ℕ
+instance_is (Some i) = 1
+instance_is None = 0
 
 -- the six bytes of a MAC address, as they stand
 abbrev pub mac_out : Mac → WickMac

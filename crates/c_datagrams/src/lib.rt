@@ -1,26 +1,22 @@
 // Datagrams as programs in C have them: the structs that crate wickanchor hands over, laid out as C does, and what turns the answers of
 // crates frame, reply, error and event into them, and addresses back; requests stand in crate c_requests and are handed on. A refusal is its number by
-// document 01, 0 stands for none, and every other field of a refused call is 0. Each contract is an equation over what the answer says.
+// document 01, 0 stands for none, and every other field of a refused call is 0: a number or a flag beside a value stays in these structs, since
+// include/wickanchor.h lays them out so. Each contract is an equation over what the answer says.
 #![tactic(auto)]
 
 ghost use Rattle.std.specs.Prelude.{◌≡◌};
-ghost use Rattle.refusal.specs.Answer.{full};
-ghost use Rattle.frame.specs.Written.{said as saidWrote};
-ghost use Rattle.error.specs.Error.{said_name};
-ghost use Rattle.reply.specs.Reading.{said_code, said as saidReply};
-ghost use Rattle.event_type.specs.Types.{said_instance};
+ghost use Rattle.refusal.specs.Answer.{full, said};
+ghost use Rattle.refusal.specs.Refusals.{number_of};
 ghost use Rattle.event.specs.Layout.{width_of};
 ghost use Rattle.event.specs.Reading.{said_event};
 ghost use Rattle.c_datagrams.specs.Written.{wrote_out};
 ghost use Rattle.c_datagrams.specs.Replies.{reply_out, name_no, code_out};
-ghost use Rattle.c_datagrams.specs.Events.{instance_no, instance_is, no_event, event_out, mac_in};
+ghost use Rattle.c_datagrams.specs.Events.{no_event, event_out, mac_in};
 
 pub use c_requests::{WickAddress, WickAim, WickRequest, address_in, aim_out, request_out};
-use error::Name;
 use event::{Event, Layout, Mac};
-use event_type::Instance;
-use frame::Wrote;
-use reply::Code;
+use refusal::Refusal;
+use reply::{Code, Reply};
 
 // How many bytes a writer wrote.
 #[repr(C)]
@@ -79,16 +75,16 @@ pub struct WickEvent {
 }
 
 // What a writer answers.
-pub fn wrote_out(w: Wrote) -> WickWrote
-    ensures { result ≡ wrote_out (saidWrote w) }
+pub fn wrote_out(w: Result<usize, Refusal>) -> WickWrote
+    ensures { result ≡ wrote_out (said w) }
 {
     match w {
-        Wrote::Count(n) => WickWrote {
+        Ok(n) => WickWrote {
             refusal: 0,
             count: n as u64,
         },
-        Wrote::Refused(k) => WickWrote {
-            refusal: k,
+        Err(k) => WickWrote {
+            refusal: k.number(),
             count: 0,
         },
     }
@@ -98,19 +94,19 @@ pub fn wrote_out(w: Wrote) -> WickWrote
 const REPLY_DATA_AT: u64 = 3;
 
 // What reading a reply datagram answers.
-pub fn reply_out(r: reply::Reading) -> WickReply
-    ensures { result ≡ reply_out (saidReply r) }
+pub fn reply_out(r: Result<Reply, Refusal>) -> WickReply
+    ensures { result ≡ reply_out (said r) }
 {
     match r {
-        reply::Reading::Accepted(x) => WickReply {
+        Ok(x) => WickReply {
             refusal: 0,
             kind: x.kind,
             sequence: x.sequence,
             data_at: REPLY_DATA_AT,
             n: x.n as u64,
         },
-        reply::Reading::Refused(k) => WickReply {
-            refusal: k,
+        Err(k) => WickReply {
+            refusal: k.number(),
             kind: 0,
             sequence: 0,
             data_at: 0,
@@ -120,30 +116,24 @@ pub fn reply_out(r: reply::Reading) -> WickReply
 }
 
 // The error code of a reply.
-pub fn code_out(c: Code) -> WickCode
-    ensures { result ≡ code_out (said_code c) }
+pub fn code_out(c: Result<Option<Code>, Refusal>) -> WickCode
+    ensures { result ≡ code_out (said c) }
 {
     match c {
-        Code::Named { code, name } => WickCode {
+        Ok(Some(c)) => WickCode {
             refusal: 0,
             has_code: 1,
-            code,
-            name,
+            code: c.code,
+            name: name_out(c.name),
         },
-        Code::Number(code) => WickCode {
-            refusal: 0,
-            has_code: 1,
-            code,
-            name: 0,
-        },
-        Code::Absent => WickCode {
+        Ok(None) => WickCode {
             refusal: 0,
             has_code: 0,
             code: 0,
             name: 0,
         },
-        Code::Refused(k) => WickCode {
-            refusal: k,
+        Err(k) => WickCode {
+            refusal: k.number(),
             has_code: 0,
             code: 0,
             name: 0,
@@ -152,32 +142,10 @@ pub fn code_out(c: Code) -> WickCode
 }
 
 // The number of an error code's name, 0 where it has none.
-pub fn name_out(n: Name) -> u8
-    ensures { result ≡ name_no (said_name n) }
+pub fn name_out(n: Option<u8>) -> u8
+    ensures { result ≡ name_no n }
 {
-    match n {
-        Name::Number(k) => k,
-        Name::Nothing => 0,
-    }
-}
-
-// An instance as a number, 0 where there is none; and whether there is one.
-fn instance_no(i: Instance) -> u8
-    ensures { result ≡ instance_no (said_instance i) }
-{
-    match i {
-        Instance::Number(n) => n,
-        Instance::Absent => 0,
-    }
-}
-
-fn instance_is(i: Instance) -> u8
-    ensures { result ≡ instance_is (said_instance i) }
-{
-    match i {
-        Instance::Number(_) => 1,
-        Instance::Absent => 0,
-    }
+    n.unwrap_or(0)
 }
 
 // An event that was accepted, by its layout.
@@ -185,13 +153,11 @@ pub fn event_out(layout: Layout, e: Event) -> WickEvent
     ensures { result ≡ event_out (width_of layout) (full (said_event e)) }
 {
     let m = e.mac;
-    let t = e.kind;
-    let i = e.instance;
     WickEvent {
         refusal: 0,
-        kind: t.number(),
-        instance: instance_no(i),
-        has_instance: instance_is(i),
+        kind: e.kind.number(),
+        instance: e.instance.unwrap_or(0),
+        has_instance: e.instance.is_some() as u8,
         mac: WickMac {
             b0: m.0,
             b1: m.1,
@@ -207,11 +173,11 @@ pub fn event_out(layout: Layout, e: Event) -> WickEvent
 }
 
 // An event datagram that was refused.
-pub fn event_refused(k: u8) -> WickEvent
-    ensures { result ≡ no_event k }
+pub fn event_refused(k: Refusal) -> WickEvent
+    ensures { result ≡ no_event (number_of k) }
 {
     WickEvent {
-        refusal: k,
+        refusal: k.number(),
         kind: 0,
         instance: 0,
         has_instance: 0,

@@ -3,11 +3,11 @@
 #![tactic(auto)]
 
 ghost use Rattle.std.specs.Prelude.{◌≡◌};
+ghost use Rattle.filter_plan.specs.Said.{said_verdict, said_left};
 ghost use Rattle.c_plan.specs.Plans.{verdict_out, left_out, since_out};
 
 use filter_asked::Filter;
-use filter_plan::{Left, Verdict, Went};
-use filter_since::Since;
+use filter_plan::{Left, Verdict};
 
 // What the check answers: 0 is yes, 1 a bad request, 2 a wanted event that is hidden; the refusal of the request; and the place of either.
 #[repr(C)]
@@ -38,7 +38,7 @@ pub struct WickSince {
 
 // What the check of a plan answers.
 pub fn verdict_out(v: Verdict) -> WickPlan
-    ensures { result ≡ verdict_out v }
+    ensures { result ≡ verdict_out (said_verdict v) }
 {
     match v {
         Verdict::Yes => WickPlan {
@@ -46,10 +46,10 @@ pub fn verdict_out(v: Verdict) -> WickPlan
             refusal: 0,
             place: 0,
         },
-        Verdict::Bad { request, number } => WickPlan {
+        Verdict::Bad(bad) => WickPlan {
             answer: 1,
-            refusal: number,
-            place: request,
+            refusal: bad.refusal.number(),
+            place: bad.request,
         },
         Verdict::Hidden(j) => WickPlan {
             answer: 2,
@@ -61,39 +61,30 @@ pub fn verdict_out(v: Verdict) -> WickPlan
 
 // The filters that a plan leaves.
 pub fn left_out(l: Left) -> WickPlanLeft
-    ensures { result ≡ left_out l }
+    ensures { result ≡ left_out (said_left l) }
 {
-    let went = l.went;
-    let left = l.filters;
-    let filters = left.entries;
-    match went {
-        Went::Well => WickPlanLeft {
-            refusal: 0,
-            request: 0,
-            count: left.count,
-            filters,
-        },
-        Went::Bad { request, number } => WickPlanLeft {
-            refusal: number,
-            request,
-            count: left.count,
-            filters,
-        },
+    let (refusal, request) = match l.went {
+        Ok(()) => (0, 0),
+        Err(bad) => (bad.refusal.number(), bad.request),
+    };
+    let filters = l.filters.entries;
+    WickPlanLeft {
+        refusal,
+        request,
+        count: l.filters.count,
+        filters,
     }
 }
 
 // Since which request an event is hidden.
-pub fn since_out(s: Since) -> WickSince
-    ensures { result ≡ since_out s }
+pub fn since_out(since: Option<usize>) -> WickSince
+    ensures { result ≡ since_out since }
 {
-    match s {
-        Since::Never => WickSince {
+    match since {
+        None => WickSince {
             hidden: 0,
             request: 0,
         },
-        Since::Request(k) => WickSince {
-            hidden: 1,
-            request: k,
-        },
+        Some(request) => WickSince { hidden: 1, request },
     }
 }

@@ -4,16 +4,16 @@
 #![tactic(auto)]
 
 ghost use Rattle.std.specs.Prelude.{◌≡◌};
-ghost use Rattle.refusal.specs.Test.{flag};
-ghost use Rattle.refusal.specs.Answer.{full};
+ghost use Rattle.refusal.specs.Answer.{full, said_of};
 ghost use Rattle.target.specs.Target.{said_target};
 ghost use Rattle.colour.specs.Colour.{said_colour};
 ghost use Rattle.meaning.specs.Meaning.{said_meaning};
-ghost use Rattle.request.specs.Said.{said_request, said as saidReading};
+ghost use Rattle.request.specs.Said.{said_request};
 ghost use Rattle.c_requests.specs.Requests.{aim_out, means_out, meaning_out, colourless, colour_out, contentless, request_out, address_in};
 
 use colour::Colour;
 use meaning::Meaning;
+use refusal::Refusal;
 use request::{Contents, Ipv4, Request};
 use target::{LineTarget, Target};
 
@@ -175,17 +175,15 @@ fn colour_out(target: LineTarget, lights: Target, level: u8, colour: Colour) -> 
     let address = target.0;
     let aim = aim_out(lights);
     match colour {
-        Colour::Xy { x, y } => {
-            let mut w = colourless(command::COLOUR_XY, address, aim, level);
-            w.x = x;
-            w.y = y;
-            w
-        }
-        Colour::Tc(tc) => {
-            let mut w = colourless(command::COLOUR_TC, address, aim, level);
-            w.tc = tc;
-            w
-        }
+        Colour::Xy { x, y } => WickColour {
+            x,
+            y,
+            ..colourless(command::COLOUR_XY, address, aim, level)
+        },
+        Colour::Tc(tc) => WickColour {
+            tc,
+            ..colourless(command::COLOUR_TC, address, aim, level)
+        },
         Colour::Rgbwaf {
             red,
             green,
@@ -193,16 +191,15 @@ fn colour_out(target: LineTarget, lights: Target, level: u8, colour: Colour) -> 
             white,
             amber,
             free,
-        } => {
-            let mut w = colourless(command::COLOUR_RGBWAF, address, aim, level);
-            w.red = red;
-            w.green = green;
-            w.blue = blue;
-            w.white = white;
-            w.amber = amber;
-            w.free = free;
-            w
-        }
+        } => WickColour {
+            red,
+            green,
+            blue,
+            white,
+            amber,
+            free,
+            ..colourless(command::COLOUR_RGBWAF, address, aim, level)
+        },
     }
 }
 
@@ -231,59 +228,48 @@ fn contentless(refusal: u8, sequence: u8, command: u8, retired: u8) -> WickReque
     }
 }
 
-// A mark as a number.
-fn mark_out(retired: bool) -> u8
-    ensures { result ≡ flag retired }
-{
-    if retired { 1 } else { 0 }
-}
-
 fn accepted_request(r: Request) -> WickRequest
     ensures { result ≡ request_out (full (said_request r)) }
 {
-    let mut w = contentless(0, r.sequence, r.command, mark_out(r.retired));
-    let contents = r.contents;
-    match contents {
-        Contents::Basic { arguments, meaning } => {
-            let m = meaning_out(meaning);
-            w.a = arguments.a;
-            w.b = arguments.b;
-            w.c = arguments.c;
-            w.d = arguments.d;
-            w.meaning = m;
-            w
-        }
-        Contents::Unicast { port, address } => {
-            let a = WickAddress {
+    let w = contentless(0, r.sequence, r.command, u8::from(r.retired));
+    match r.contents {
+        Contents::Basic { arguments, meaning } => WickRequest {
+            a: arguments.a,
+            b: arguments.b,
+            c: arguments.c,
+            d: arguments.d,
+            meaning: meaning_out(meaning),
+            ..w
+        },
+        Contents::Unicast { port, address } => WickRequest {
+            port,
+            address: WickAddress {
                 b0: address.0,
                 b1: address.1,
                 b2: address.2,
                 b3: address.3,
-            };
-            w.port = port;
-            w.address = a;
-            w
-        }
+            },
+            ..w
+        },
         Contents::Colour {
             target,
             lights,
             level,
             colour,
-        } => {
-            let c = colour_out(target, lights, level, colour);
-            w.colour = c;
-            w
-        }
+        } => WickRequest {
+            colour: colour_out(target, lights, level, colour),
+            ..w
+        },
     }
 }
 
 // What reading a request datagram answers.
-pub fn request_out(r: request::Reading) -> WickRequest
-    ensures { result ≡ request_out (saidReading r) }
+pub fn request_out(r: Result<Request, Refusal>) -> WickRequest
+    ensures { result ≡ request_out (said_of said_request r) }
 {
     match r {
-        request::Reading::Accepted(x) => accepted_request(x),
-        request::Reading::Refused(k) => contentless(k, 0, 0, 0),
+        Ok(x) => accepted_request(x),
+        Err(k) => contentless(k.number(), 0, 0, 0),
     }
 }
 

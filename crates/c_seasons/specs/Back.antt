@@ -1,18 +1,16 @@
 -- A state that is handed back and handed in again is what it was: so parts that a program in C hands in one after the other, each with the
 -- state that the call before handed back, make the report that crate by_parts makes of them.
-use Rattle.std.specs.Prelude.{ℕ, ◌≡◌, refl, List, [], ◌∷◌, map, length}
+use Rattle.std.specs.Prelude.{ℕ, ◌≡◌, refl, List, [], ◌∷◌, map, length, Option, Some, None}
 use Rattle.std.proofs.Common.{sym, ap, ◌∙◌}
-use Rattle.refusal.specs.Answer.{Answer}
+use Rattle.refusal.specs.Refusals.{number_of}
 use Rattle.stream.specs.Stream.{whole}
-use Rattle.event.specs.declared.Layout.{Layout}
 use Rattle.event.specs.declared.Layout.TheVariants.{Three, Two}
-use Rattle.summary.specs.declared.Seconds.{Seconds}
-use Rattle.summary.specs.declared.Seconds.TheVariants.{Absent, At}
 use Rattle.season.specs.declared.Season.{Season}
-use Rattle.report.specs.Report.{reported, reporting}
+use Rattle.report.specs.Report.{reported}
 use Rattle.by_parts.specs.declared.Stage.{Stage}
 use Rattle.by_parts.specs.declared.Stage.TheVariants.{Fresh, Of, Refused}
 use Rattle.by_parts.specs.declared.SoFar.{SoFar}
+use Rattle.by_parts.specs.Numbered.{refusal_is}
 use Rattle.by_parts.specs.Parts.{begun, parted, parted_all, ended}
 use Rattle.by_parts.specs.Whole.{report_in_parts}
 use Rattle.c_capture.specs.Times.{time_in, time_is, time_no}
@@ -23,15 +21,15 @@ use Rattle.c_seasons.specs.declared.WickSeasonsState.{WickSeasonsState}
 use Rattle.c_seasons.specs.Seasons.{corridor_in, boundaries_in, season_in, season_out, seasons_out}
 use Rattle.c_seasons.specs.States.{stage_in, stage_no, stage_refusal, state_in, state_out}
 
-time_back : (t : Seconds) → time_in (time_is t) (time_no t) ≡ t
-time_back Absent = refl
-time_back (At n) = refl
+time_back : (t : Option ℕ) → time_in (time_is t) (time_no t) ≡ t
+time_back None = refl
+time_back (Some n) = refl
 
 stage_back : (s : Stage) → stage_in (stage_no s) (stage_refusal s) ≡ s
 stage_back Fresh = refl
 stage_back (Of Three) = refl
 stage_back (Of Two) = refl
-stage_back (Refused k) = refl
+stage_back (Refused k) = ap Refused (sym (refusal_is k (number_of k) refl))
 
 season_back : (s : Season) → season_in (season_out s) ≡ s
 season_back s =
@@ -70,7 +68,7 @@ after_parts w [] = w
 after_parts w (p ∷ ps) = after_parts (after_part w p) ps
 
 abbrev pub at_end : WickSeasonsState → WickSeasons
-at_end w = seasons_out (reporting (ended (state_in w)))
+at_end w = seasons_out (ended (state_in w))
 
 pub parts_are : (w : WickSeasonsState) (ps : List (List ℕ)) → state_in (after_parts w ps) ≡ parted_all (state_in w) ps
 unfolding after_parts parted_all
@@ -78,12 +76,12 @@ parts_are w [] = refl
 parts_are w (p ∷ ps) = parts_are (after_part w p) ps ∙ ap (λ (x : SoFar). parted_all x ps) (state_back (parted (state_in w) p))
 
 pub calls_are : (c : WickCorridor) (b : WickBoundaries) (ps : List (List ℕ))
-    → at_end (after_parts (after_begin c b) ps) ≡ seasons_out (reporting (ended (parted_all (begun (corridor_in c) (boundaries_in b)) ps)))
+    → at_end (after_parts (after_begin c b) ps) ≡ seasons_out (ended (parted_all (begun (corridor_in c) (boundaries_in b)) ps))
 calls_are c b ps =
     let x : SoFar = begun (corridor_in c) (boundaries_in b) in
-    ap (λ (y : SoFar). seasons_out (reporting (ended y))) (parts_are (after_begin c b) ps ∙ ap (λ (y : SoFar). parted_all y ps) (state_back x))
+    ap (λ (y : SoFar). seasons_out (ended y)) (parts_are (after_begin c b) ps ∙ ap (λ (y : SoFar). parted_all y ps) (state_back x))
 
 -- so, whatever the cut, they give the report of document 02's W-213 over all parts put together
 pub report_from_c : (c : WickCorridor) (b : WickBoundaries) (ps : List (List ℕ))
-    → at_end (after_parts (after_begin c b) ps) ≡ seasons_out (reporting (reported (whole ps) (length (whole ps)) (corridor_in c) (boundaries_in b)))
-report_from_c c b ps = calls_are c b ps ∙ ap (λ (a : Answer (List Season)). seasons_out (reporting a)) (report_in_parts (corridor_in c) (boundaries_in b) ps)
+    → at_end (after_parts (after_begin c b) ps) ≡ seasons_out (reported (whole ps) (length (whole ps)) (corridor_in c) (boundaries_in b))
+report_from_c c b ps = calls_are c b ps ∙ ap seasons_out (report_in_parts (corridor_in c) (boundaries_in b) ps)

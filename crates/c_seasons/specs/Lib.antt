@@ -3,5 +3,3 @@ pub mod Seasons
 pub mod States
 -- what is claimed of it
 pub mod Back
--- what only serves proofs
-pub mod Handed

@@ -1,14 +1,12 @@
 -- A corridor, boundaries and seasons as another language hands them in and is handed them, and what a report answers, beside a refusal.
-use Rattle.std.specs.Prelude.{ℕ, ◌≡◌, refl, map, [], ◌∷◌}
-use Rattle.refusal.specs.Answer.{refused}
+use Rattle.std.specs.Prelude.{ℕ, ◌≡◌, refl, map, List, [], ◌∷◌}
+use Rattle.refusal.specs.Answer.{Answer, refused, full}
 use Rattle.season.specs.declared.Corridor.{Corridor}
 use Rattle.season.specs.declared.Boundaries.{Boundaries}
 use Rattle.season.specs.declared.Season.{Season}
-use Rattle.report.specs.declared.Reported.{Reported}
-use Rattle.report.specs.Report.{reporting}
+use Rattle.tally.specs.Tally.{no_tally}
 use Rattle.c_datagrams.specs.Events.{mac_in, mac_out}
 use Rattle.c_capture.specs.Times.{time_in, time_is, time_no}
-use Rattle.c_capture.specs.Captures.{went_no}
 use Rattle.c_seasons.specs.declared.WickCorridor.{WickCorridor}
 use Rattle.c_seasons.specs.declared.WickBoundaries.{WickBoundaries}
 use Rattle.c_seasons.specs.declared.WickSeason.{WickSeason}
@@ -50,12 +48,14 @@ season_out s =
       gaps = s.gaps;
     }
 
-abbrev pub seasons_out : Reported → WickSeasons
-seasons_out r = record { refusal = went_no r.went; seasons = map season_out r.seasons }
+-- what a report answers: the seasons, or the refusal beside four of which nothing is counted
+abbrev pub seasons_out : Answer (List Season) → WickSeasons
+seasons_out (full s) = record { refusal = 0; seasons = map season_out s }
+seasons_out (refused k) = record { refusal = k; seasons = map season_out no_tally.seasons }
 
 -- beside a refusal all else is 0
 abbrev pub no_season : WickSeason
 no_season = record { occupied = 0; presses = 0; holds = 0; has_longest = 0; longest = 0; total = 0; gaps = 0 }
 
-pub seasons_refused : (k : ℕ) → seasons_out (reporting (refused k)) ≡ record { refusal = k; seasons = no_season ∷ no_season ∷ no_season ∷ no_season ∷ [] }
+pub seasons_refused : (k : ℕ) → seasons_out (refused k) ≡ record { refusal = k; seasons = no_season ∷ no_season ∷ no_season ∷ no_season ∷ [] }
 seasons_refused k = refl

@@ -1,12 +1,14 @@
 -- A report between two parts of a capture, as another language hands it in and is handed it back.
 use Rattle.std.specs.Prelude.{ℕ, map, eqb}
 use Rattle.refusal.specs.Test.{pick}
+use Rattle.refusal.specs.Refusals.{number_of}
 use Rattle.event.specs.declared.Layout.{Layout}
 use Rattle.event.specs.declared.Layout.TheVariants.{Three, Two}
 use Rattle.passing.specs.declared.Passed.{Passed}
 use Rattle.by_parts.specs.declared.Stage.{Stage}
 use Rattle.by_parts.specs.declared.Stage.TheVariants.{Fresh, Of, Refused}
 use Rattle.by_parts.specs.declared.SoFar.{SoFar}
+use Rattle.by_parts.specs.Numbered.{refusal_of}
 use Rattle.c_capture.specs.Times.{time_in, time_is, time_no}
 use Rattle.c_seasons.specs.Seasons.{corridor_in, corridor_out, boundaries_in, boundaries_out, season_in, season_out}
 use Rattle.c_seasons.specs.declared.WickSeasonsState.{WickSeasonsState}
@@ -14,7 +16,7 @@ use Rattle.c_seasons.specs.declared.WickSeasonsState.{WickSeasonsState}
 -- a stage by its number: 0 before any byte, 1 and 2 the version byte of a capture of only good records, and every other number that the
 -- capture is refused, with the number beside it
 abbrev pub stage_in : ℕ → ℕ → Stage
-stage_in n k = pick (eqb n 0) Fresh (pick (eqb n 1) (Of Three) (pick (eqb n 2) (Of Two) (Refused k)))
+stage_in n k = pick (eqb n 0) Fresh (pick (eqb n 1) (Of Three) (pick (eqb n 2) (Of Two) (Refused (refusal_of k))))
 
 abbrev pub version_no : Layout → ℕ
 version_no Three = 1
@@ -28,7 +30,7 @@ stage_no (Refused k) = 3
 abbrev pub stage_refusal : Stage → ℕ
 stage_refusal Fresh = 0
 stage_refusal (Of l) = 0
-stage_refusal (Refused k) = k
+stage_refusal (Refused k) = number_of k
 
 -- the good records passed, with the tally of them
 abbrev pub passed_in : WickSeasonsState → Passed

@@ -5,6 +5,9 @@
 #![tactic(auto)]
 
 ghost use Rattle.std.specs.Prelude.{◌≡◌, map};
+ghost use Rattle.refusal.specs.Answer.{said};
+ghost use Rattle.by_parts.specs.declared.Stage.TheVariants.{Refused};
+ghost use Rattle.by_parts.specs.Numbered.{refusal_of};
 ghost use Rattle.c_seasons.specs.Seasons.{corridor_in, corridor_out, boundaries_in, boundaries_out, season_in, season_out, seasons_out};
 ghost use Rattle.c_seasons.specs.States.{stage_in, version_no, stage_no, stage_refusal, passed_in, state_in, state_out};
 
@@ -12,7 +15,7 @@ use by_parts::{Held, SoFar, Stage};
 use c_datagrams::WickMac;
 use event::Layout;
 use passing::Passed;
-use report::Reported;
+use refusal::Refusal;
 use season::{Boundaries, Corridor, Season};
 use tally::Tally;
 
@@ -84,9 +87,8 @@ pub struct WickSeasonsState {
 pub fn corridor_in(w: WickCorridor) -> Corridor
     ensures { result ≡ corridor_in w }
 {
-    let mac = w.mac;
     Corridor {
-        mac: c_datagrams::mac_in(mac),
+        mac: c_datagrams::mac_in(w.mac),
         target: w.target,
         instance: w.instance,
     }
@@ -95,15 +97,14 @@ pub fn corridor_in(w: WickCorridor) -> Corridor
 fn corridor_out(c: Corridor) -> WickCorridor
     ensures { result ≡ corridor_out c }
 {
-    let m = c.mac;
     WickCorridor {
         mac: WickMac {
-            b0: m.0,
-            b1: m.1,
-            b2: m.2,
-            b3: m.3,
-            b4: m.4,
-            b5: m.5,
+            b0: c.mac.0,
+            b1: c.mac.1,
+            b2: c.mac.2,
+            b3: c.mac.3,
+            b4: c.mac.4,
+            b5: c.mac.5,
         },
         target: c.target,
         instance: c.instance,
@@ -148,13 +149,12 @@ fn season_in(w: WickSeason) -> Season
 fn season_out(s: Season) -> WickSeason
     ensures { result ≡ season_out s }
 {
-    let longest = s.longest;
     WickSeason {
         occupied: s.occupied,
         presses: s.presses,
         holds: s.holds,
-        has_longest: c_capture::time_is(longest),
-        longest: c_capture::time_no(longest),
+        has_longest: c_capture::time_is(s.longest),
+        longest: c_capture::time_no(s.longest),
         total: s.total,
         gaps: s.gaps,
     }
@@ -164,51 +164,47 @@ fn season_out(s: Season) -> WickSeason
 fn four_in(w: [WickSeason; tally::SEASONS]) -> [Season; tally::SEASONS]
     ensures { result ≡ map season_in w }
 {
-    [
-        season_in(w[0]),
-        season_in(w[1]),
-        season_in(w[2]),
-        season_in(w[3]),
-    ]
+    w.map(season_in)
 }
 
 fn four_out(s: [Season; tally::SEASONS]) -> [WickSeason; tally::SEASONS]
     ensures { result ≡ map season_out s }
 {
-    [
-        season_out(s[0]),
-        season_out(s[1]),
-        season_out(s[2]),
-        season_out(s[3]),
-    ]
+    s.map(season_out)
 }
 
-// What a report answers.
-pub fn seasons_out(r: Reported) -> WickSeasons
-    ensures { result ≡ seasons_out r }
+// What a report answers. Beside a refusal nothing is counted.
+pub fn seasons_out(r: Result<[Season; tally::SEASONS], Refusal>) -> WickSeasons
+    ensures { result ≡ seasons_out (said r) }
 {
-    let went = r.went;
-    let s = r.seasons;
-    WickSeasons {
-        refusal: c_capture::went_no(went),
-        seasons: four_out(s),
+    match r {
+        Ok(seasons) => WickSeasons {
+            refusal: 0,
+            seasons: four_out(seasons),
+        },
+        Err(refusal) => WickSeasons {
+            refusal: refusal.number(),
+            seasons: four_out(tally::nothing().seasons),
+        },
     }
+}
+
+// The stage of a capture that is refused, by the refusal's number.
+fn refused(number: u8) -> Stage
+    ensures { result ≡ Refused (refusal_of number) }
+{
+    Stage::Refused(Refusal::from(number))
 }
 
 // A stage by its number and that of a refusal: every number but 0, 1 and 2 says that the capture is refused.
 fn stage_in(n: u8, refusal: u8) -> Stage
     ensures { result ≡ stage_in n refusal }
 {
-    if n == 0 {
-        return Stage::Fresh;
-    }
-    if n == 1 {
-        return Stage::Of(Layout::Three);
-    }
-    if n == 2 {
-        Stage::Of(Layout::Two)
-    } else {
-        Stage::Refused(refusal)
+    match n {
+        0 => Stage::Fresh,
+        1 => Stage::Of(Layout::Three),
+        2 => Stage::Of(Layout::Two),
+        _ => refused(refusal),
     }
 }
 
@@ -237,9 +233,8 @@ fn stage_refusal(s: Stage) -> u8
     ensures { result ≡ stage_refusal s }
 {
     match s {
-        Stage::Fresh => 0,
-        Stage::Of(_) => 0,
-        Stage::Refused(k) => k,
+        Stage::Fresh | Stage::Of(_) => 0,
+        Stage::Refused(refusal) => refusal.number(),
     }
 }
 
@@ -247,13 +242,12 @@ fn stage_refusal(s: Stage) -> u8
 fn passed_in(w: WickSeasonsState) -> Passed
     ensures { result ≡ passed_in w }
 {
-    let s = w.seasons;
     Passed {
         records: w.records,
         bytes: w.bytes,
         last: c_capture::time_in(w.has_last, w.last),
         tally: Tally {
-            seasons: four_in(s),
+            seasons: four_in(w.seasons),
             last: c_capture::time_in(w.has_occupied, w.occupied),
         },
     }
@@ -263,12 +257,10 @@ fn passed_in(w: WickSeasonsState) -> Passed
 pub fn state_in(w: WickSeasonsState) -> SoFar
     ensures { result ≡ state_in w }
 {
-    let who = w.who;
-    let boundaries = w.boundaries;
     let bytes = w.held;
     SoFar {
-        who: corridor_in(who),
-        bounds: boundaries_in(boundaries),
+        who: corridor_in(w.who),
+        bounds: boundaries_in(w.boundaries),
         stage: stage_in(w.stage, w.refusal),
         passed: passed_in(w),
         held: Held { bytes, len: w.len },
@@ -278,29 +270,22 @@ pub fn state_in(w: WickSeasonsState) -> SoFar
 pub fn state_out(x: SoFar) -> WickSeasonsState
     ensures { result ≡ state_out x }
 {
-    let who = x.who;
-    let bounds = x.bounds;
-    let stage = x.stage;
     let passed = x.passed;
-    let last = passed.last;
     let tally = passed.tally;
-    let seasons = tally.seasons;
-    let occupied = tally.last;
-    let h = x.held;
-    let held = h.bytes;
+    let held = x.held.bytes;
     WickSeasonsState {
-        who: corridor_out(who),
-        boundaries: boundaries_out(bounds),
-        stage: stage_no(stage),
-        refusal: stage_refusal(stage),
+        who: corridor_out(x.who),
+        boundaries: boundaries_out(x.bounds),
+        stage: stage_no(x.stage),
+        refusal: stage_refusal(x.stage),
         records: passed.records,
         bytes: passed.bytes,
-        has_last: c_capture::time_is(last),
-        last: c_capture::time_no(last),
-        seasons: four_out(seasons),
-        has_occupied: c_capture::time_is(occupied),
-        occupied: c_capture::time_no(occupied),
+        has_last: c_capture::time_is(passed.last),
+        last: c_capture::time_no(passed.last),
+        seasons: four_out(tally.seasons),
+        has_occupied: c_capture::time_is(tally.last),
+        occupied: c_capture::time_no(tally.last),
         held,
-        len: h.len,
+        len: x.held.len,
     }
 }

@@ -1,11 +1,9 @@
 -- What the contracts of crates book and reader say of an answer, said of what is handed over.
-use Rattle.std.specs.Prelude.{ℕ, ◌≡◌, List}
+use Rattle.std.specs.Prelude.{ℕ, Result, ◌≡◌, List}
 use Rattle.std.proofs.Common.{ap, ◌∙◌}
 use Rattle.book.specs.declared.Timed.{Timed}
-use Rattle.free_number.specs.declared.Given.{Given}
-use Rattle.book.specs.declared.Freed.{Freed}
-use Rattle.free_number.specs.Number.{said_given}
-use Rattle.book.specs.Book.{said_freed}
+use Rattle.refusal.specs.Answer.{said}
+use Rattle.refusal.specs.declared.Refusal.{Refusal}
 use Rattle.book.specs.Ticks.{Asks, Replies}
 use Rattle.extent.specs.declared.Line.{Line}
 use Rattle.reader.specs.declared.Held.{Held}
@@ -16,11 +14,11 @@ use Rattle.c_values.specs.declared.WickBooked.{WickBooked}
 use Rattle.c_values.specs.Books.{booked_by, AsksOut, RepliesOut}
 
 -- what a call of a book answers, and what it leaves
-pub asked_out : {b : Timed} {c t : ℕ} {g : Given} {after : Timed} {w : WickBooked} → w ≡ booked_by (said_given g) → Asks b c t g after → AsksOut b c t w after
+pub asked_out : {b : Timed} {c t : ℕ} {g : Result ℕ Refusal} {after : Timed} {w : WickBooked} → w ≡ booked_by (said g) → Asks b c t g after → AsksOut b c t w after
 asked_out e a = record { says = e ∙ ap booked_by a.says; leaves = a.leaves }
 
-pub replied_out : {asked : List ℕ} {n : ℕ} {f : Freed} {after : List ℕ} {w : WickBooked}
-    → w ≡ booked_by (said_freed f) → Replies asked n f after → RepliesOut asked n w after
+pub replied_out : {asked : List ℕ} {n : ℕ} {f : Result ℕ Refusal} {after : List ℕ} {w : WickBooked}
+    → w ≡ booked_by (said f) → Replies asked n f after → RepliesOut asked n w after
 replied_out e a = record { says = λ last. e ∙ ap booked_by (a.says last); leaves = a.leaves }
 
 -- what a call of a reader gives, of the line and the reader that were handed in

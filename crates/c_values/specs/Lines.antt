@@ -1,5 +1,5 @@
 -- A reader of a line as another language hands it in and is handed it back, and what its calls give; and what a finished run gives.
-use Rattle.std.specs.Prelude.{ℕ, List, eqb}
+use Rattle.std.specs.Prelude.{ℕ, Option, Some, None, List, replicate, eqb}
 use Rattle.refusal.specs.Test.{pick}
 use Rattle.stream.specs.Stream.{Position, nothing, stands, feed, close}
 use Rattle.extent.specs.declared.Line.{Line}
@@ -7,9 +7,8 @@ use Rattle.extent.specs.declared.Line.TheVariants.{Request, Reply}
 use Rattle.line.specs.Rule.{settle}
 use Rattle.reader.specs.declared.Held.{Held}
 use Rattle.reader.specs.declared.Given.{Given}
-use Rattle.reader.specs.declared.Got.{Got}
-use Rattle.reader.specs.declared.Got.TheVariants.{Nothing, Item}
-use Rattle.reader.specs.Reader.{held_of, given_of, closed_of}
+use Rattle.reader.specs.declared.Item.{Item}
+use Rattle.reader.specs.Reader.{item_room, held_of, given_of, closed_of}
 use Rattle.quiet_run.specs.Quiet.{First, none, loud}
 use Rattle.c_values.specs.declared.WickReader.{WickReader}
 use Rattle.c_values.specs.declared.WickGiven.{WickGiven}
@@ -26,24 +25,32 @@ reader_in w = record { bytes = w.bytes; len = w.len }
 abbrev pub reader_out : Held → WickReader
 reader_out h = record { bytes = h.bytes; len = h.len }
 
--- whether there is an item, and its number
-abbrev pub got_is : Got → ℕ
-got_is Nothing = 0
-got_is (Item k) = 1
+-- whether there is an item, its number, how many bytes it has, and these in front of zeros
+abbrev pub item_is : Option Item → ℕ
+item_is None = 0
+item_is (Some x) = 1
 
-abbrev pub got_no : Got → ℕ
-got_no Nothing = 0
-got_no (Item k) = k
+abbrev pub item_no : Option Item → ℕ
+item_no None = 0
+item_no (Some x) = x.number
+
+abbrev pub item_count : Option Item → ℕ
+item_count None = 0
+item_count (Some x) = x.count
+
+abbrev pub item_bytes : Option Item → List ℕ
+item_bytes None = replicate item_room 0
+item_bytes (Some x) = x.bytes
 
 abbrev pub given_out : Given → WickGiven
 given_out r =
     record {
       reader = reader_out r.held;
       taken = r.taken;
-      has_item = got_is r.got;
-      item = got_no r.got;
-      count = r.count;
-      bytes = r.bytes;
+      has_item = item_is r.item;
+      item = item_no r.item;
+      count = item_count r.item;
+      bytes = item_bytes r.item;
     }
 
 -- what a feeding and a closing call give

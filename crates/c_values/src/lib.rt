@@ -6,12 +6,8 @@
 #![tactic(auto)]
 
 ghost use Rattle.std.specs.Prelude.{◌≡◌};
-ghost use Rattle.target.specs.Target.{said_line, said_device, said_number};
-ghost use Rattle.maps.specs.Said.{said16, said32, said64, said_lowest};
-ghost use Rattle.filters.specs.Filters.{said_filters, said_entry};
+ghost use Rattle.refusal.specs.Answer.{said};
 ghost use Rattle.table.specs.Table.{numbers_at};
-ghost use Rattle.free_number.specs.Number.{said_given};
-ghost use Rattle.book.specs.Book.{said_freed};
 ghost use Rattle.line.specs.Said.{said_at};
 ghost use Rattle.quiet_run.specs.Scan.{said_first};
 ghost use Rattle.c_values.specs.Numbers.{number_out, line_out, device_out, entry_out};
@@ -19,13 +15,14 @@ ghost use Rattle.c_values.specs.Filters.{filters_out, filter_out};
 ghost use Rattle.c_values.specs.Books.{book_out, booked_by};
 ghost use Rattle.c_values.specs.Lines.{line_by, reader_in, reader_out, given_out, position_out, quiet_out};
 
-use book::{Freed, Timed};
-use filters::{Found, Listed};
-use line::{At, Line};
-use maps::{Lowest, Map16, Map32, Map64};
-use reader::{Given, Got, Held};
+use book::Timed;
+use filters::{Filter, Filters};
+use line::{Item, Line};
+use quiet_run::Loud;
+use reader::{Given, Held, ITEM_ROOM};
+use refusal::Refusal;
 use table::Entry;
-use target::{Addressed, Numbered, OnLine};
+use target::{Device, LineTarget};
 
 // A number, as a map, a count or an address.
 #[repr(C)]
@@ -121,63 +118,14 @@ pub struct WickQuiet {
     pub count: usize,
 }
 
-// The number of a map, or a refusal.
-pub fn map16_out(m: Map16) -> WickNumber
-    ensures { result ≡ number_out (said16 m) }
+// A number, or a refusal.
+pub fn number_out(r: Result<u64, Refusal>) -> WickNumber
+    ensures { result ≡ number_out (said r) }
 {
-    match m {
-        Map16::Bits(n) => WickNumber {
-            refusal: 0,
-            number: n as u64,
-        },
-        Map16::Refused(k) => WickNumber {
-            refusal: k,
-            number: 0,
-        },
-    }
-}
-
-pub fn map32_out(m: Map32) -> WickNumber
-    ensures { result ≡ number_out (said32 m) }
-{
-    match m {
-        Map32::Bits(n) => WickNumber {
-            refusal: 0,
-            number: n as u64,
-        },
-        Map32::Refused(k) => WickNumber {
-            refusal: k,
-            number: 0,
-        },
-    }
-}
-
-pub fn map64_out(m: Map64) -> WickNumber
-    ensures { result ≡ number_out (said64 m) }
-{
-    match m {
-        Map64::Bits(n) => WickNumber {
-            refusal: 0,
-            number: n,
-        },
-        Map64::Refused(k) => WickNumber {
-            refusal: k,
-            number: 0,
-        },
-    }
-}
-
-// The lowest of a map.
-pub fn lowest_out(m: Lowest) -> WickNumber
-    ensures { result ≡ number_out (said_lowest m) }
-{
-    match m {
-        Lowest::Is(n) => WickNumber {
-            refusal: 0,
-            number: n as u64,
-        },
-        Lowest::Refused(k) => WickNumber {
-            refusal: k,
+    match r {
+        Ok(number) => WickNumber { refusal: 0, number },
+        Err(k) => WickNumber {
+            refusal: k.number(),
             number: 0,
         },
     }
@@ -194,35 +142,35 @@ pub fn entry_out(e: Entry) -> WickEntry
 }
 
 // The mode byte of filters and how many entries they have, and an entry.
-pub fn filters_out(r: Listed) -> WickFilters
-    ensures { result ≡ filters_out (said_filters r) }
+pub fn filters_out(r: Result<Filters, Refusal>) -> WickFilters
+    ensures { result ≡ filters_out (said r) }
 {
     match r {
-        Listed::Filters(f) => WickFilters {
+        Ok(f) => WickFilters {
             refusal: 0,
             mode: f.mode,
             entries: f.entries as u64,
         },
-        Listed::Refused(k) => WickFilters {
-            refusal: k,
+        Err(k) => WickFilters {
+            refusal: k.number(),
             mode: 0,
             entries: 0,
         },
     }
 }
 
-pub fn filter_out(r: Found) -> WickFilter
-    ensures { result ≡ filter_out (said_entry r) }
+pub fn filter_out(r: Result<Filter, Refusal>) -> WickFilter
+    ensures { result ≡ filter_out (said r) }
 {
     match r {
-        Found::Entry(f) => WickFilter {
+        Ok(f) => WickFilter {
             refusal: 0,
             address: f.address,
             instance: f.instance,
             mask: f.mask,
         },
-        Found::Refused(k) => WickFilter {
-            refusal: k,
+        Err(k) => WickFilter {
+            refusal: k.number(),
             address: 0,
             instance: 0,
             mask: 0,
@@ -230,92 +178,40 @@ pub fn filter_out(r: Found) -> WickFilter
     }
 }
 
-// The target of a group on the line, the address of a control device, and its own number.
-pub fn line_out(r: OnLine) -> WickNumber
-    ensures { result ≡ line_out (said_line r) }
+// The target of a group on the line, and the address of a control device.
+pub fn line_out(r: Result<LineTarget, Refusal>) -> WickNumber
+    ensures { result ≡ line_out (said r) }
 {
-    match r {
-        OnLine::At(t) => WickNumber {
-            refusal: 0,
-            number: t.0 as u64,
-        },
-        OnLine::Refused(k) => WickNumber {
-            refusal: k,
-            number: 0,
-        },
-    }
+    number_out(r.map(|t| u64::from(t.0)))
 }
 
-pub fn device_out(r: Addressed) -> WickNumber
-    ensures { result ≡ device_out (said_device r) }
+pub fn device_out(r: Result<Device, Refusal>) -> WickNumber
+    ensures { result ≡ device_out (said r) }
 {
-    match r {
-        Addressed::At(a) => WickNumber {
-            refusal: 0,
-            number: a.0 as u64,
-        },
-        Addressed::Refused(k) => WickNumber {
-            refusal: k,
-            number: 0,
-        },
-    }
-}
-
-pub fn own_out(r: Numbered) -> WickNumber
-    ensures { result ≡ number_out (said_number r) }
-{
-    match r {
-        Numbered::Own(n) => WickNumber {
-            refusal: 0,
-            number: n as u64,
-        },
-        Numbered::Refused(k) => WickNumber {
-            refusal: k,
-            number: 0,
-        },
-    }
+    number_out(r.map(|a| u64::from(a.0)))
 }
 
 // A book of crate book.
 pub fn book_out(b: Timed) -> WickBook
     ensures { result ≡ book_out b }
 {
-    let held = b.book;
-    let asked = held.asked;
+    let asked = b.book.asked;
     let ticks = b.ticks;
     WickBook {
         asked,
-        last: held.last,
+        last: b.book.last,
         ticks,
     }
 }
 
 // What asking with a command and taking a reply's number answer.
-pub fn asked_out(g: book::Given) -> WickBooked
-    ensures { result ≡ booked_by (said_given g) }
+pub fn booked_out(r: Result<u8, Refusal>) -> WickBooked
+    ensures { result ≡ booked_by (said r) }
 {
-    match g {
-        book::Given::Number(n) => WickBooked {
-            refusal: 0,
-            answer: n,
-        },
-        book::Given::Refused(k) => WickBooked {
-            refusal: k,
-            answer: 0,
-        },
-    }
-}
-
-pub fn replied_out(f: Freed) -> WickBooked
-    ensures { result ≡ booked_by (said_freed f) }
-{
-    match f {
-        Freed::Command(c) => WickBooked {
-            refusal: 0,
-            answer: c,
-        },
-        Freed::Refused(k) => WickBooked {
-            refusal: k,
+    match r {
+        Ok(answer) => WickBooked { refusal: 0, answer },
+        Err(k) => WickBooked {
+            refusal: k.number(),
             answer: 0,
         },
     }
@@ -348,39 +244,40 @@ pub fn given_out(g: Given) -> WickGiven
     ensures { result ≡ given_out g }
 {
     let reader = reader_out(g.held);
-    let bytes = g.bytes;
-    let got = g.got;
-    match got {
-        Got::Item(k) => WickGiven {
-            reader,
-            taken: g.taken,
-            has_item: 1,
-            item: k,
-            count: g.count,
-            bytes,
-        },
-        Got::Nothing => WickGiven {
+    match g.item {
+        Some(x) => {
+            let bytes = x.bytes;
+            WickGiven {
+                reader,
+                taken: g.taken,
+                has_item: 1,
+                item: x.number,
+                count: x.count,
+                bytes,
+            }
+        }
+        None => WickGiven {
             reader,
             taken: g.taken,
             has_item: 0,
             item: 0,
-            count: g.count,
-            bytes,
+            count: 0,
+            bytes: [0; ITEM_ROOM],
         },
     }
 }
 
 // What stands at a position.
-pub fn item_out(r: At) -> WickItem
+pub fn item_out(r: Option<Item>) -> WickItem
     ensures { result ≡ position_out (said_at r) }
 {
     match r {
-        At::Item(k, m) => WickItem {
+        Some(x) => WickItem {
             has_item: 1,
-            item: k,
-            count: m,
+            item: x.number,
+            count: x.size,
         },
-        At::Nothing => WickItem {
+        None => WickItem {
             has_item: 0,
             item: 0,
             count: 0,
@@ -389,17 +286,17 @@ pub fn item_out(r: At) -> WickItem
 }
 
 // The first item of a run that is not quiet.
-pub fn quiet_out(r: quiet_run::Found) -> WickQuiet
+pub fn quiet_out(r: Option<Loud>) -> WickQuiet
     ensures { result ≡ quiet_out (said_first r) }
 {
     match r {
-        quiet_run::Found::Loud(at, k, m) => WickQuiet {
+        Some(x) => WickQuiet {
             passes: 0,
-            item: k,
-            place: at,
-            count: m,
+            item: x.number,
+            place: x.place,
+            count: x.size,
         },
-        quiet_run::Found::None => WickQuiet {
+        None => WickQuiet {
             passes: 1,
             item: 0,
             place: 0,

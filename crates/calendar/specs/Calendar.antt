@@ -1,10 +1,10 @@
 -- The Gregorian calendar, and seconds since 1970-01-01 00:00:00, UTC, where every day has 86400 of them. docs/SHEET.md, "Arguments": "a date
 -- of the Gregorian calendar, and mean its midnight, UTC: 1970-01-01 to 2106-02-07, the last whose midnight is such a number".
-use Rattle.std.specs.Prelude.{ℕ, zero, suc, ◌+◌, ◌-◌, ◌*◌, ◌/◌, ◌%◌, Bool, ◌&&◌, ◌||◌, not, List, [], ◌∷◌, ◌++◌, get_or, take, eqb, ltb, leb}
+use Rattle.std.specs.Prelude.{ℕ, Result, Ok, Err, zero, suc, ◌+◌, ◌-◌, ◌*◌, ◌/◌, ◌%◌, Bool, ◌&&◌, ◌||◌, not, List, [], ◌∷◌, ◌++◌, get_or, take, eqb, ltb, leb}
 use Rattle.refusal.specs.Test.{pick}
 use Rattle.calendar.specs.declared.Date.{Date}
-use Rattle.calendar.specs.declared.Midnight.{Midnight}
-use Rattle.calendar.specs.declared.Midnight.TheVariants.{At, NoSuchDate, Outside}
+use Rattle.calendar.specs.declared.NoMidnight.{NoMidnight}
+use Rattle.calendar.specs.declared.NoMidnight.TheVariants.{NoSuchDate, Outside}
 
 -- LENGTHS. A year is a leap year where 4 divides it, but for those that 100 divides and 400 does not
 unfoldable pub is_leap : ℕ → Bool
@@ -46,11 +46,11 @@ abbrev pub days_since1970 : Date → ℕ
 days_since1970 d = days_of_years d.year + days_of_months d.year d.month + (d.day - 1)
 
 -- its midnight, where the date is there and the midnight is a number of 32 bits
-unfoldable pub midnight_of : Date → Midnight
+unfoldable pub midnight_of : Date → Result ℕ NoMidnight
 midnight_of d =
     pick (is_date d)
-    (pick (leb 1970 d.year && leb (days_since1970 d * 86400) 4294967295) (At (days_since1970 d * 86400)) Outside)
-    NoSuchDate
+    (pick (leb 1970 d.year && leb (days_since1970 d * 86400) 4294967295) (Ok (days_since1970 d * 86400)) (Err Outside))
+    (Err NoSuchDate)
 
 -- DATES. The date n days behind the first day of month m of year y, where the months from m on have these days
 unfoldable pub month_from : List ℕ → ℕ → ℕ → ℕ → Date

@@ -1,12 +1,12 @@
 -- Laws of the lengths of years and months, of sums of them, and of midnights told by what the code has found.
-use Rattle.std.specs.Prelude.{ℕ, zero, suc, ◌+◌, ◌-◌, ◌*◌, ◌≤◌, ◌<◌, ◌≡◌, refl, Bool, true, false, List, [], ◌∷◌, get_or, take, leb}
+use Rattle.std.specs.Prelude.{ℕ, Ok, Err, zero, suc, ◌+◌, ◌-◌, ◌*◌, ◌≤◌, ◌<◌, ◌≡◌, refl, Bool, true, false, List, [], ◌∷◌, get_or, take, leb}
 use Rattle.std.proofs.Common.{sym}
 use Rattle.std.proofs.Math.ListN.{get_or-eq_default}
 use Rattle.std.proofs.Math.Seq.{take-nil}
 use borrow.Author.Tests.{leb-true, leb-false, le-leb, lt-leb}
 use native.Mathlib.Omega.{arith}
 use Rattle.calendar.specs.declared.Date.{Date}
-use Rattle.calendar.specs.declared.Midnight.TheVariants.{At, NoSuchDate, Outside}
+use Rattle.calendar.specs.declared.NoMidnight.TheVariants.{NoSuchDate, Outside}
 use Rattle.calendar.specs.Calendar.{is_leap, months, days_in, sum, days_of, days_of_first, days_of_years, days_of_months, days_since1970, midnight_of}
 
 -- a year, and its February
@@ -117,31 +117,31 @@ years_most zero = omega arith
 years_most (suc k) = omega (arith, years_most k, year_most (1970 + k))
 
 -- midnights
-pub no_day : (d : Date) → d.day ≡ 0 → NoSuchDate ≡ midnight_of d
+pub no_day : (d : Date) → d.day ≡ 0 → Err NoSuchDate ≡ midnight_of d
 unfolding midnight_of
 no_day d e = rw e
 
-pub no_date : (d : Date) → days_in d.year d.month < d.day → NoSuchDate ≡ midnight_of d
+pub no_date : (d : Date) → days_in d.year d.month < d.day → Err NoSuchDate ≡ midnight_of d
 unfolding midnight_of
 no_date d h =
     let l : 1 ≤ d.day = omega arith in
     rw (le-leb 1 d.day l, lt-leb d.day (days_in d.year d.month) h)
 
 module _ (d : Date) (one : 1 ≤ d.day) (most : d.day ≤ days_in d.year d.month) where
-  pub too_early : d.year < 1970 → Outside ≡ midnight_of d
+  pub too_early : d.year < 1970 → Err Outside ≡ midnight_of d
   unfolding midnight_of
   too_early h = rw (le-leb 1 d.day one, le-leb d.day (days_in d.year d.month) most, lt-leb 1970 d.year h)
 
-  pub too_late : 1970 ≤ d.year → 49710 < days_since1970 d → Outside ≡ midnight_of d
+  pub too_late : 1970 ≤ d.year → 49710 < days_since1970 d → Err Outside ≡ midnight_of d
   unfolding midnight_of
   too_late h l =
       let m : 4294967295 < days_since1970 d * 86400 = omega arith in
       rw (le-leb 1 d.day one, le-leb d.day (days_in d.year d.month) most, le-leb 1970 d.year h, lt-leb (days_since1970 d * 86400) 4294967295 m)
 
-  pub year_late : 2106 < d.year → Outside ≡ midnight_of d
+  pub year_late : 2106 < d.year → Err Outside ≡ midnight_of d
   year_late h = too_late (omega arith) (omega (arith, years_least (d.year - 1970)))
 
-  pub in_time_lem : {n : ℕ} → 1970 ≤ d.year → n ≡ days_since1970 d → n ≤ 49710 → At (n * 86400) ≡ midnight_of d
+  pub in_time_lem : {n : ℕ} → 1970 ≤ d.year → n ≡ days_since1970 d → n ≤ 49710 → Ok (n * 86400) ≡ midnight_of d
   unfolding midnight_of
   in_time_lem {n} h e l =
       let m : days_since1970 d * 86400 ≤ 4294967295 = omega arith in

@@ -22,35 +22,29 @@ const LAST_DAY: u32 = 49710;
 const DAYS: [u32; 13] = [0, 31, 28, 31, 30, 31, 30, 31, 31, 30, 31, 30, 31];
 
 // A year, a month from 1 on, a day from 1 on: no number of them is refused.
-#[derive(Drop)]
+#[derive(Clone, Copy, Debug, PartialEq, Eq)]
 pub struct Date {
     pub year: u32,
     pub month: u32,
     pub day: u32,
 }
 
-// The midnight with which a date begins, in seconds since 1970; or that the calendar lacks the date; or that the date has a midnight which
-// is no number of 32 bits.
-#[derive(Drop)]
-pub enum Midnight {
-    At(u32),
+// Why a date has no midnight in seconds since 1970: the calendar lacks the date, or its midnight is no number of 32 bits.
+#[derive(Clone, Copy, Debug, PartialEq, Eq)]
+pub enum NoMidnight {
     NoSuchDate,
     Outside,
 }
 
+#[tactic(auto, unfolding(crate::specs::Calendar::is_leap))]
 fn is_leap(year: u32) -> bool
     ensures { result ≡ is_leap year }
 {
-    if year % 4 != 0 {
-        return false;
-    }
-    if year % 100 != 0 {
-        return true;
-    }
-    year % 400 == 0
+    year % 4 == 0 && (year % 100 != 0 || year % 400 == 0)
 }
 
 // How many days a year has.
+#[tactic(auto, using(crate::specs::Lengths::year_leap, crate::specs::Lengths::year_common))]
 fn days_of(year: u32) -> u32
     ensures { result ≡ days_of year }
 {
@@ -75,11 +69,9 @@ fn days_of_years(year: u32) -> u32
     requires { (1970 ≤ year) × (year ≤ 2106) }
     ensures { result ≡ days_of_years year }
 {
-    let mut y = FIRST_YEAR;
     let mut total: u32 = 0;
-    while y < year {
+    for y in FIRST_YEAR..year {
         total += days_of(y);
-        y += 1;
     }
     total
 }
@@ -89,36 +81,28 @@ fn days_of_months(year: u32, month: u32) -> u32
     requires { (1 ≤ month) × (month ≤ 12) }
     ensures { result ≡ days_of_months year month }
 {
-    let mut m: u32 = 1;
     let mut total: u32 = 0;
-    while m < month {
+    for m in 1..month {
         total += days_in(year, m);
-        m += 1;
     }
     total
 }
 
-// The midnight with which a date begins.
-pub fn midnight_of(d: Date) -> Midnight
+// The midnight with which a date begins, in seconds since 1970.
+pub fn midnight_of(d: Date) -> Result<u32, NoMidnight>
     ensures { result ≡ midnight_of d }
 {
-    if d.day == 0 {
-        return Midnight::NoSuchDate;
+    if d.day == 0 || days_in(d.year, d.month) < d.day {
+        return Err(NoMidnight::NoSuchDate);
     }
-    if days_in(d.year, d.month) < d.day {
-        return Midnight::NoSuchDate;
-    }
-    if d.year < FIRST_YEAR {
-        return Midnight::Outside;
-    }
-    if LAST_YEAR < d.year {
-        return Midnight::Outside;
+    if d.year < FIRST_YEAR || LAST_YEAR < d.year {
+        return Err(NoMidnight::Outside);
     }
     let days = days_of_years(d.year) + days_of_months(d.year, d.month) + (d.day - 1);
     if LAST_DAY < days {
-        return Midnight::Outside;
+        return Err(NoMidnight::Outside);
     }
-    Midnight::At(days * DAY)
+    Ok(days * DAY)
 }
 
 // The date that lies so many days behind the first of January of a year.
@@ -126,23 +110,21 @@ fn date_in(year: u32, days: u32) -> Date
     requires { days ≤ 49710 }
     ensures { result ≡ date_in year days }
 {
-    let mut m: u32 = 1;
     let mut left = days;
-    while m <= 12 {
-        let its = days_in(year, m);
+    for month in 1..13 {
+        let its = days_in(year, month);
         if left < its {
             return Date {
                 year,
-                month: m,
+                month,
                 day: left + 1,
             };
         }
         left -= its;
-        m += 1;
     }
     Date {
         year,
-        month: m,
+        month: 13,
         day: left + 1,
     }
 }
@@ -151,24 +133,22 @@ fn date_in(year: u32, days: u32) -> Date
 pub fn date_of(seconds: u32) -> Date
     ensures { result ≡ date_of seconds }
 {
-    let mut y = FIRST_YEAR;
     let mut left = seconds / DAY;
-    while y < LAST_YEAR {
+    for y in FIRST_YEAR..LAST_YEAR {
         let whole = days_of(y);
         if left < whole {
             return date_in(y, left);
         }
         left -= whole;
-        y += 1;
     }
-    date_in(y, left)
+    date_in(LAST_YEAR, left)
 }
 
 // The last decimal digit of a number.
 fn figure(n: u32) -> u8
     ensures { result ≡ figure n }
 {
-    (48 + n % 10) as u8
+    b'0' + (n % 10) as u8
 }
 
 // Puts a second since 1970 as `2026-03-01 00:00:00`.

@@ -1,27 +1,17 @@
 -- Document 02, W-207: "Keep accepted events in a lent buffer with a count of its bytes in use: a version byte at the front (1 for three
 -- target bytes, 2 for two), then records".
-use Rattle.std.specs.Prelude.{ℕ, zero, suc, ◌+◌, Bool, not, ◌||◌, List, [], ◌∷◌, length, take, drop, leb, eqb}
+use Rattle.std.specs.Prelude.{ℕ, Option, Some, None, zero, suc, ◌+◌, Bool, not, ◌||◌, List, [], ◌∷◌, length, take, drop, leb, eqb}
 use Rattle.refusal.specs.Test.{pick}
 use Rattle.refusal.specs.Answer.{Answer, refused, full, demand}
 use Rattle.frame.specs.Frame.{byte}
 use Rattle.event.specs.declared.Layout.{Layout}
 use Rattle.event.specs.declared.Layout.TheVariants.{Three, Two}
 use Rattle.event.specs.Layout.{width_of}
-use Rattle.record.specs.Record.{Entry, record_size, record_at, Stood, standing, said_stored}
-use Rattle.summary.specs.declared.Seconds.{Seconds}
-use Rattle.summary.specs.declared.Seconds.TheVariants.{Absent, At}
+use Rattle.record.specs.Record.{Entry, record_size, record_at, Stood, standing}
 use Rattle.summary.specs.declared.Summary.{Summary}
 use Rattle.summary.specs.Summary.{last_from, not_before, counted_in, most}
 use Rattle.capture.specs.declared.Mark.{Mark}
 use Rattle.capture.specs.declared.Kept.{Kept}
-use Rattle.capture.specs.declared.Version.{Version}
-use Rattle.capture.specs.declared.Version.TheVariants.{Of, Refused as front·Refused}
-use Rattle.capture.specs.declared.Opening.{Opening}
-use Rattle.capture.specs.declared.Opening.TheVariants.{Open, Refused as opening·Refused}
-use Rattle.capture.specs.declared.Found.{Found}
-use Rattle.summary.specs.declared.Went.TheVariants.{Well, Refused as went·Refused}
-use Rattle.capture.specs.declared.Next.{Next}
-use Rattle.capture.specs.declared.Next.TheVariants.{Record, Refused as step·Refused}
 
 -- THE FRONT. "1 for three target bytes, 2 for two", "14 unknown version"
 abbrev pub is_version : ℕ → Bool
@@ -47,11 +37,11 @@ abbrev pub front_of : List ℕ → ℕ → Answer Layout
 front_of b u = with_claim (version_in b u) b u
 
 -- THE RECORDS. The one at the front of some bytes, behind one of these seconds; 15: ".. of seconds below the one before"
-abbrev pub in_time : Seconds → Answer Entry → Answer Entry
+abbrev pub in_time : Option ℕ → Answer Entry → Answer Entry
 in_time last (refused k) = refused k
 in_time last (full r) = demand (not_before last r.seconds) 15 (full r)
 
-unfoldable pub next_at : ℕ → Seconds → List ℕ → Answer Entry
+unfoldable pub next_at : ℕ → Option ℕ → List ℕ → Answer Entry
 next_at w last s = in_time last (record_at w s)
 
 -- a record taken, and then others
@@ -63,19 +53,19 @@ abbrev pub size_at : Answer Entry → ℕ
 size_at (refused k) = 0
 size_at (full r) = record_size r.datagram
 
-abbrev pub last_at : Answer Entry → Seconds → Seconds
+abbrev pub last_at : Answer Entry → Option ℕ → Option ℕ
 last_at (refused k) last = last
-last_at (full r) last = At r.seconds
+last_at (full r) last = Some r.seconds
 
 -- the good records at the front of some bytes, one behind the other, up to the end or to the first that is bad; at most n are looked for
-unfoldable pub records_up_to : ℕ → ℕ → Seconds → List ℕ → List Entry
+unfoldable pub records_up_to : ℕ → ℕ → Option ℕ → List ℕ → List Entry
 records_up_to w zero last s = []
 records_up_to w (suc n) last s =
     let x = next_at w last s in
     takes x (records_up_to w n (last_at x last) (drop (size_at x) s))
 
 -- each has a byte, so there are no more than bytes
-abbrev pub records_from : ℕ → Seconds → List ℕ → List Entry
+abbrev pub records_from : ℕ → Option ℕ → List ℕ → List Entry
 records_from w last s = records_up_to w (length s) last s
 
 -- how many bytes some records take
@@ -92,11 +82,11 @@ walked w s m = behind m (records_from w m.last (drop m.used s))
 
 -- behind the version byte
 abbrev pub start : Mark
-start = record { used = 1; last = Absent }
+start = record { used = 1; last = None }
 
 -- the good records of some bytes with a version byte in front
 abbrev pub records_in : ℕ → List ℕ → List Entry
-records_in w s = records_from w Absent (drop 1 s)
+records_in w s = records_from w None (drop 1 s)
 
 -- OPENING: the bytes in use are a capture where its good records are all of them, else 15; its mark
 unfoldable pub opened_all : ℕ → List ℕ → Answer Mark
@@ -140,14 +130,9 @@ kept_in (full l) b u = full (kept (first_records (width_of l) (take u b)))
 unfoldable pub prefixed : List ℕ → ℕ → Answer Kept
 prefixed b u = kept_in (version_in b u) b u
 
--- what is answered: mark and summary, or the refusal beside others
-abbrev pub found : Answer Kept → Kept → Found
-found (full y) x = record { went = Well; kept = y }
-found (refused k) x = record { went = went·Refused k; kept = x }
-
 -- nothing in use, nothing counted
 abbrev pub nothing_kept : Kept
-nothing_kept = record { mark = record { used = 0; last = Absent }; summary = counted_in [] }
+nothing_kept = record { mark = record { used = 0; last = None }; summary = counted_in [] }
 
 -- ONE STEP of a walk: the record that begins at a place; 12 at the end of the bytes in use
 abbrev pub entry_in : Answer Layout → List ℕ → ℕ → ℕ → Answer Entry
@@ -178,16 +163,3 @@ start_of (full r) p = p + 6
 
 abbrev pub datagram_start : List ℕ → ℕ → ℕ → ℕ
 datagram_start b u p = start_of (entry_at b u p) p
-
--- the number and values for each case of an answer
-abbrev pub said_front : Version → Answer Layout
-said_front (Of l) = full l
-said_front (front·Refused k) = refused k
-
-abbrev pub said_opening : Opening → Answer Mark
-said_opening (Open m) = full m
-said_opening (opening·Refused k) = refused k
-
-abbrev pub said_step : Next → Answer Stood
-said_step (Record x) = full (said_stored x)
-said_step (step·Refused k) = refused k

@@ -1,12 +1,10 @@
 -- A walk on its way: the records that it passed, and those that are left.
-use Rattle.std.specs.Prelude.{ℕ, ◌+◌, ◌≤◌, ◌<◌, ◌≡◌, List, [], ◌∷◌, ◌++◌, length, drop, ltb, Bool, true, false}
+use Rattle.std.specs.Prelude.{Option, Some, None, ℕ, ◌+◌, ◌≤◌, ◌<◌, ◌≡◌, List, [], ◌∷◌, ◌++◌, length, drop, ltb, Bool, true, false}
 use Rattle.std.proofs.Math.Path.{refl, ap}
 use Rattle.std.proofs.Common.{sym, ◌∙◌, append_assoc, append-nil, length-append, length-drop, drop-drop, ltb-true, ltb-false, arith}
 use Rattle.refusal.specs.Answer.{Answer, refused, full, full_one}
 use Rattle.refusal.specs.Test.{clash}
 use Rattle.record.specs.Record.{Entry, record_size}
-use Rattle.summary.specs.declared.Seconds.{Seconds}
-use Rattle.summary.specs.declared.Seconds.TheVariants.{Absent, At}
 use Rattle.summary.specs.declared.Summary.{Summary}
 use Rattle.summary.specs.Summary.{last_from, counted_in, most, type_of, one_more}
 use Rattle.summary.specs.OneMore.{one_more_lem, no_more, last_snoc}
@@ -15,26 +13,22 @@ use Rattle.capture.specs.Walk.{next_fits, records_next, records_end, sizes_appen
 use Rattle.event_type.specs.Types.{kind_number, type_number}
 use Rattle.event.specs.Reading.{Told}
 use Rattle.record.specs.declared.Stored.{Stored}
-use Rattle.summary.specs.declared.Counting.{Counting}
-use Rattle.summary.specs.declared.Went.TheVariants.{Well, Refused}
-use Rattle.summary.specs.Summary.{counting}
-use Rattle.summary.specs.Went.{counting_well, counting_refused}
 use Rattle.capture.specs.Says.{Stands}
 
 -- from place a and seconds l on, the walk over s is at a place behind a record of these seconds
-pub record Reached (w : ℕ) (s : List ℕ) (a : ℕ) (l : Seconds) (at : ℕ) (last : Seconds) : Type 0 where
+pub record Reached (w : ℕ) (s : List ℕ) (a : ℕ) (l : Option ℕ) (at : ℕ) (last : Option ℕ) : Type 0 where
   pub done : List Entry
   pub left : records_from w l (drop a s) ≡ done ++ records_from w last (drop at s)
   pub place : at ≡ a + sizes_of done
   pub time : last ≡ last_from l done
   pub room : at ≤ length s
 
-module _ {w : ℕ} {s : List ℕ} {a : ℕ} {l : Seconds} where
+module _ {w : ℕ} {s : List ℕ} {a : ℕ} {l : Option ℕ} where
   pub reached_starts : a ≤ length s → Reached w s a l a l
   reached_starts h = record { done = []; left = refl; place = omega arith; time = refl; room = h }
 
-  pub reached_next : {at : ℕ} {last : Seconds} → Reached w s a l at last → (r : Entry) → next_at w last (drop at s) ≡ full r
-      → Reached w s a l (at + record_size r.datagram) (At r.seconds)
+  pub reached_next : {at : ℕ} {last : Option ℕ} → Reached w s a l at last → (r : Entry) → next_at w last (drop at s) ≡ full r
+      → Reached w s a l (at + record_size r.datagram) (Some r.seconds)
   reached_next {at} {last} p r e =
       let f = next_fits w last (drop at s) r e in
       let n : ℕ = record_size r.datagram in
@@ -43,18 +37,18 @@ module _ {w : ℕ} {s : List ℕ} {a : ℕ} {l : Seconds} where
         left =
             p.left
             ∙ ap (λ (x : List Entry). p.done ++ x) (records_next w last (drop at s) r e)
-            ∙ sym (append_assoc p.done (r ∷ []) (records_from w (At r.seconds) (drop n (drop at s))))
-            ∙ ap (λ (x : List ℕ). (p.done ++ (r ∷ [])) ++ records_from w (At r.seconds) x) (drop-drop n at s);
+            ∙ sym (append_assoc p.done (r ∷ []) (records_from w (Some r.seconds) (drop n (drop at s))))
+            ∙ ap (λ (x : List ℕ). (p.done ++ (r ∷ [])) ++ records_from w (Some r.seconds) x) (drop-drop n at s);
         place = omega (arith, p.place, sizes_append p.done (r ∷ []));
         time = sym (last_snoc l p.done r);
         room = omega (arith, length-drop at s, p.room);
       }
 
   -- where no record is left, what was walked is all
-  pub reached_all : {at : ℕ} {last : Seconds} (p : Reached w s a l at last) → records_from w last (drop at s) ≡ [] → records_from w l (drop a s) ≡ p.done
+  pub reached_all : {at : ℕ} {last : Option ℕ} (p : Reached w s a l at last) → records_from w last (drop at s) ≡ [] → records_from w l (drop a s) ≡ p.done
   reached_all {at} {last} p e = p.left ∙ ap (λ (x : List Entry). p.done ++ x) e ∙ append-nil p.done
 
-  pub reached_stops : {at : ℕ} {last : Seconds} → Reached w s a l at last → records_from w last (drop at s) ≡ []
+  pub reached_stops : {at : ℕ} {last : Option ℕ} → Reached w s a l at last → records_from w last (drop at s) ≡ []
       → record { used = at; last = last } ≡ walked w s (record { used = a; last = l })
   reached_stops {at} {last} p e =
       let q = reached_all p e in
@@ -62,7 +56,7 @@ module _ {w : ℕ} {s : List ℕ} {a : ℕ} {l : Seconds} where
       let t : last ≡ last_from l (records_from w l (drop a s)) = rw q p.time in
       λ i. record { used = u i; last = t i }
 
-pub reached_end : (w : ℕ) (s : List ℕ) (at : ℕ) (last : Seconds) → length s ≤ at → records_from w last (drop at s) ≡ []
+pub reached_end : (w : ℕ) (s : List ℕ) (at : ℕ) (last : Option ℕ) → length s ≤ at → records_from w last (drop at s) ≡ []
 reached_end w s at last h = records_end w last (drop at s) (omega (arith, length-drop at s))
 
 -- a walk that counts, from behind the version byte
@@ -75,14 +69,14 @@ pub record Tallied (w : ℕ) (s : List ℕ) (at : ℕ) (x : Summary) : Type 0 wh
   pub few : length done ≤ most
 
 module _ {w : ℕ} {s : List ℕ} where
-  pub way : {at : ℕ} {x : Summary} → Tallied w s at x → Reached w s 1 Absent at x.last
+  pub way : {at : ℕ} {x : Summary} → Tallied w s at x → Reached w s 1 None at x.last
   way p = record { done = p.done; left = p.left; place = p.place; time = ap (λ (x : Summary). x.last) p.sum; room = p.room }
 
   pub tallied_starts : {x : Summary} → 1 ≤ length s → x ≡ counted_in [] → Tallied w s 1 x
   tallied_starts {x} h e =
       record {
         done = [];
-        left = ap (λ (l : Seconds). records_from w l (drop 1 s)) (ap (λ (x : Summary). Absent) e ∙ sym (ap (λ (x : Summary). x.last) e));
+        left = ap (λ (l : Option ℕ). records_from w l (drop 1 s)) (ap (λ (x : Summary). None) e ∙ sym (ap (λ (x : Summary). x.last) e));
         place = refl;
         room = h;
         sum = e;
@@ -104,10 +98,10 @@ module _ {w : ℕ} {s : List ℕ} where
           let few = ltb-true (length p.done) most h in
           let z = reached_next (way p) r e in
           let f : counted_in (p.done ++ (r ∷ [])) ≡ y = full_one (sym (one_more_lem p.done r few) ∙ more) in
-          let t : At r.seconds ≡ y.last = sym (last_snoc Absent p.done r) ∙ ap (λ (x : Summary). x.last) f in
+          let t : Some r.seconds ≡ y.last = sym (last_snoc None p.done r) ∙ ap (λ (x : Summary). x.last) f in
           record {
             done = p.done ++ (r ∷ []);
-            left = z.left ∙ ap (λ (l : Seconds). (p.done ++ (r ∷ [])) ++ records_from w l (drop (at + record_size r.datagram) s)) t;
+            left = z.left ∙ ap (λ (l : Option ℕ). (p.done ++ (r ∷ [])) ++ records_from w l (drop (at + record_size r.datagram) s)) t;
             place = z.place;
             room = z.room;
             sum = sym f;
@@ -153,27 +147,22 @@ more_by {e} {at} {y} z x a q =
 
 -- what the code has found at the place that was reached, and what it makes of it
 module _ {w : ℕ} {s : List ℕ} where
-  pub reached_step : {a at : ℕ} {l last : Seconds} {x : Stored} → Reached w s a l at last → Stands (next_at w last (drop at s)) at x
-      → Reached w s a l x.next (At x.seconds)
+  pub reached_step : {a at : ℕ} {l last : Option ℕ} {x : Stored} → Reached w s a l at last → Stands (next_at w last (drop at s)) at x
+      → Reached w s a l x.next (Some x.seconds)
   reached_step {a} {at} {l} {last} {x} p z = rw (z.next, z.time) (reached_next p z.entry z.is)
 
   -- it lies behind the place, and is there
-  pub step_room : {a at : ℕ} {l last : Seconds} {x : Stored} → Reached w s a l at last → Stands (next_at w last (drop at s)) at x
+  pub step_room : {a at : ℕ} {l last : Option ℕ} {x : Stored} → Reached w s a l at last → Stands (next_at w last (drop at s)) at x
       → (at < x.next) × (x.next ≤ length s)
   step_room {a} {at} {l} {last} {x} p z =
       let f = next_fits w last (drop at s) z.entry z.is in
       (omega (arith, z.next), omega (arith, z.next, f, length-drop at s, p.room))
 
-  pub tallied_step : {at : ℕ} {x : Summary} {y : Stored} {r : Counting} → Tallied w s at x → (z : Stands (next_at w x.last (drop at s)) at y)
-      → r ≡ counting (one_more x y.seconds (type_number y.event.kind)) x → r.went ≡ Well → Tallied w s y.next r.summary
-  tallied_step {at} {x} {y} {r} p z e h =
-      rw z.next
-      (tallied_next p z.entry z.is r.summary
-      (more_by z x (full r.summary) (counting_well (one_more x y.seconds (type_number y.event.kind)) x e h)))
+  pub tallied_counts : {at : ℕ} {x r : Summary} {y : Stored} → Tallied w s at x → (z : Stands (next_at w x.last (drop at s)) at y)
+      → full r ≡ one_more x y.seconds (type_number y.event.kind) → Tallied w s y.next r
+  tallied_counts {at} {x} {r} {y} p z e = rw z.next (tallied_next p z.entry z.is r (more_by z x (full r) (sym e)))
 
-  pub tallied_over : {at : ℕ} {x : Summary} {y : Stored} {r : Counting} {k : ℕ} → Tallied w s at x → (z : Stands (next_at w x.last (drop at s)) at y)
-      → r ≡ counting (one_more x y.seconds (type_number y.event.kind)) x → r.went ≡ Refused k
+  pub tallied_over : {at : ℕ} {x : Summary} {y : Stored} {k : ℕ} → Tallied w s at x → (z : Stands (next_at w x.last (drop at s)) at y)
+      → refused k ≡ one_more x y.seconds (type_number y.event.kind)
       → record { mark = record { used = at; last = x.last }; summary = x } ≡ kept (first_records w s)
-  tallied_over {at} {x} {y} {r} {k} p z e h =
-      tallied_most p
-      (tallied_full p z.entry k (more_by z x (refused k) (counting_refused (one_more x y.seconds (type_number y.event.kind)) x e h)))
+  tallied_over {at} {x} {y} {k} p z e = tallied_most p (tallied_full p z.entry k (more_by z x (refused k) (sym e)))

@@ -1,29 +1,29 @@
 -- The definitions of a capture, told by what the code has found: its front, what stands at a place, and what is answered.
-use Rattle.std.specs.Prelude.{ℕ, ◌+◌, ◌-◌, ◌≤◌, ◌<◌, ◌≡◌, not, drop, leb, eqb}
+use Rattle.std.specs.Prelude.{Option, Some, None, ok_or, ℕ, min, ◌+◌, ◌-◌, ◌≤◌, ◌<◌, ◌≡◌, not, drop, leb, eqb}
 use Rattle.std.proofs.Math.Path.{refl, sym, ap}
-use Rattle.std.proofs.Common.{◌∙◌, length-drop, drop-drop, drop_at, length-take-le, take_all}
+use Rattle.std.proofs.Common.{◌∙◌, length-drop, drop-drop, drop_at, length-take-le}
 use Rattle.std.proofs.Math.Bool.{true, false}
 use mathlib.Core.List.{List, [], ◌++◌}
 use Rattle.std.proofs.Math.ListN.{length, take}
+use Rattle.std.proofs.lemmas.List.{take_min}
 use Rattle.std.proofs.Math.Seq.{take-take, take-add}
 use borrow.Author.Tests.{le-leb, lt-leb, leb-true, eq-eqb, ne_eqb}
 use native.Mathlib.Omega.{arith}
 use Rattle.refusal.specs.Test.{clash}
-use Rattle.refusal.specs.Answer.{Answer, refused, full, demand_elim, full_one}
+use Rattle.refusal.specs.declared.Refusal.TheVariants.{BadRecord}
+use Rattle.refusal.specs.Answer.{Answer, refused, full, demand_elim, full_one, said_of}
 use Rattle.frame.specs.Frame.{byte}
 use Rattle.event.specs.declared.Layout.{Layout}
 use Rattle.event.specs.Layout.{width_of}
 use Rattle.event.specs.Reading.{said_event}
 use Rattle.record.specs.declared.Stored.{Stored}
-use Rattle.record.specs.Record.{Entry, record_size, record_at, Stood, stood_at, standing, said_stored}
+use Rattle.record.specs.Record.{Entry, record_size, record_at, Stood, stood_at, standing, said_stored, said_standing}
 use Rattle.record.specs.Found.{holds}
-use Rattle.summary.specs.declared.Seconds.{Seconds}
 use Rattle.summary.specs.Summary.{not_before}
-use Rattle.summary.specs.declared.Went.TheVariants.{Well, Refused}
 use Rattle.capture.specs.declared.Mark.{Mark}
 use Rattle.capture.specs.declared.Kept.{Kept}
 use Rattle.capture.specs.Capture.{is_version, layout_by, version_in, with_claim, front_of, in_time, next_at, walked, start, opened_all, opened}
-use Rattle.capture.specs.Capture.{counted_by, counted, prefixed, first_records, kept, found, nothing_kept, entry_in, entry_at, step_at, part_of, start_of, datagram_at, datagram_start}
+use Rattle.capture.specs.Capture.{counted_by, counted, prefixed, first_records, kept, entry_in, entry_at, step_at, part_of, start_of, datagram_at, datagram_start}
 
 -- THE FRONT
 module _ (b : List ℕ) (u : ℕ) where
@@ -93,7 +93,7 @@ stands_bad (refused j) at k e = let z : j ≡ k = cc in ap refused z
 stands_bad (full r) at k e = clash (cc)
 
 -- a record that comes next, or does not
-module _ (w at : ℕ) (last : Seconds) (s : List ℕ) where
+module _ (w at : ℕ) (last : Option ℕ) (s : List ℕ) where
   pub follow_bad : (k : ℕ) → refused k ≡ standing at (record_at w s) → refused k ≡ standing at (next_at w last s)
   unfolding next_at
   follow_bad k e = go (record_at w s) e
@@ -154,20 +154,13 @@ module _ (b : List ℕ) (u : ℕ) where
   unfolding prefixed
   prefixed_refused k e = rw e
 
-  pub prefix_none : (k : ℕ) (x : Kept) → version_in b u ≡ refused k → x ≡ nothing_kept → record { went = Refused k; kept = x } ≡ found (prefixed b u) nothing_kept
-  prefix_none k x e f = rw (prefixed_refused k e, f)
-
   pub prefixed_by : (l : Layout) → version_in b u ≡ full l → prefixed b u ≡ full (kept (first_records (width_of l) (take u b)))
   unfolding prefixed
   prefixed_by l e = rw e
 
-  pub prefix_part : (l : Layout) (k : Kept) → version_in b u ≡ full l → k ≡ kept (first_records (width_of l) (take u b))
-      → record { went = Well; kept = k } ≡ found (prefixed b u) nothing_kept
-  prefix_part l k e f = rw (prefixed_by l e, f)
-
-  pub prefix_all : (l : Layout) (k : Kept) → version_in b u ≡ full l → length b < u → k ≡ kept (first_records (width_of l) b)
-      → record { went = Well; kept = k } ≡ found (prefixed b u) nothing_kept
-  prefix_all l k e h f = prefix_part l k e (f ∙ ap (λ (s : List ℕ). kept (first_records (width_of l) s)) (sym (take_all u b (omega arith))))
+  -- bytes claimed beyond the end count as not there
+  pub prefix_there : (l : Layout) (k : Kept) → version_in b u ≡ full l → k ≡ kept (first_records (width_of l) (take (min u (length b)) b)) → full k ≡ prefixed b u
+  prefix_there l k e f = sym (prefixed_by l e ∙ ap (λ (s : List ℕ). full (kept (first_records (width_of l) s))) (sym (take_min u b)) ∙ ap full (sym f))
 
 -- A STEP, by the front
 module _ (b : List ℕ) (u p : ℕ) where
@@ -186,6 +179,11 @@ module _ (b : List ℕ) (u p : ℕ) where
   pub step_at_lem : (l : Layout) → front_of b u ≡ full l → (p ≡ u → ⊥) → 1 ≤ p → standing p (record_at (width_of l) (drop p (take u b))) ≡ step_at b u p
   unfolding entry_at
   step_at_lem l e h k = rw (e, ne_eqb p u h, le-leb 1 p k)
+
+  -- what is answered of what stands there, none being 15
+  pub said_or : (o : Option Stored) → said_of said_stored (ok_or o BadRecord) ≡ said_standing o
+  said_or (Some x) = refl
+  said_or None = refl
 
   -- the record of a step is a record of the bytes in use
   pub entry_there : (r : Entry) → entry_at b u p ≡ full r

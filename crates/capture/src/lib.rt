@@ -3,17 +3,17 @@
 // one record and on summary for what is counted. Document 02, W-207.
 #![tactic(auto)]
 
-ghost use Rattle.std.specs.Prelude.{◌+◌, ◌≤◌, ◌≡◌, [], length, drop};
-ghost use Rattle.refusal.specs.Answer.{refused};
+ghost use Rattle.std.specs.Prelude.{◌+◌, ◌≤◌, ◌≡◌, length, drop};
+ghost use Rattle.refusal.specs.Answer.{said, said_of};
 ghost use Rattle.event.specs.Layout.{width_of};
-ghost use Rattle.record.specs.Record.{standing, said as saidStanding};
-ghost use Rattle.summary.specs.Summary.{counted_in, counting};
-ghost use Rattle.capture.specs.Capture.{layout_by, is_version, version_in, front_of, said_front, next_at, walked, kept, first_records};
-ghost use Rattle.capture.specs.Capture.{opened, said_opening, counted_all, counted, prefixed, found, nothing_kept, step_at, said_step, datagram_at, datagram_start};
+ghost use Rattle.record.specs.Record.{standing, said_stored, said_standing};
+ghost use Rattle.capture.specs.Capture.{layout_by, is_version, version_in, front_of, next_at, walked, kept, first_records};
+ghost use Rattle.capture.specs.Capture.{opened, counted, prefixed, nothing_kept, step_at, datagram_at, datagram_start};
 
 use event::Layout;
-use record::{Standing, Stored};
-use summary::{Counting, Seconds, Summary, Went};
+use record::Stored;
+use refusal::Refusal;
+use summary::Summary;
 
 // "a version byte at the front (1 for three target bytes, 2 for two)"
 pub const THREE: u8 = 1;
@@ -21,52 +21,24 @@ pub const THREE: u8 = 1;
 pub const TWO: u8 = 2;
 
 // How many bytes of a capture are in use, and its last record's seconds.
-#[derive(Clone, Copy)]
+#[derive(Clone, Copy, Debug, PartialEq, Eq)]
 pub struct Mark {
     pub used: usize,
-    pub last: Seconds,
+    pub last: Option<u32>,
 }
 
 // What is kept of a capture beside its bytes.
-#[derive(Drop)]
+#[derive(Clone, Copy, Debug, PartialEq, Eq)]
 pub struct Kept {
     pub mark: Mark,
     pub summary: Summary,
-}
-
-// The layout of a capture's datagrams, or the number of the refusal.
-#[derive(Drop)]
-pub enum Version {
-    Of(Layout),
-    Refused(u8),
-}
-
-// What opening a capture answers.
-#[derive(Drop)]
-pub enum Opening {
-    Open(Mark),
-    Refused(u8),
-}
-
-// A capture's mark and summary; on a refusal these say nothing of the capture (the call says what they are).
-#[derive(Drop)]
-pub struct Found {
-    pub went: Went,
-    pub kept: Kept,
-}
-
-// What stands at a place of a capture.
-#[derive(Drop)]
-pub enum Next {
-    Record(Stored),
-    Refused(u8),
 }
 
 // Whether a number is a version.
 pub fn is_version(version: u8) -> bool
     ensures { result ≡ is_version version }
 {
-    (version == THREE) | (version == TWO)
+    matches!(version, THREE | TWO)
 }
 
 // The layout of a version's datagrams.
@@ -81,51 +53,39 @@ fn layout_of(version: u8) -> Layout
 }
 
 // The layout by the version byte, however many bytes are claimed to be in use.
-fn version_in(buf: &[u8], used: usize) -> Version
-    ensures { said_front result ≡ version_in buf.now used }
+fn version_in(buf: &[u8], used: usize) -> Result<Layout, Refusal>
+    ensures { said result ≡ version_in buf.now used }
 {
-    if buf.len() < 1 {
-        return Version::Refused(15);
-    }
-    if used < 1 {
-        return Version::Refused(15);
+    if buf.len() < 1 || used < 1 {
+        return Err(Refusal::BadRecord);
     }
     let version = buf[0];
     if !is_version(version) {
-        return Version::Refused(14);
+        return Err(Refusal::UnknownVersion);
     }
-    Version::Of(layout_of(version))
+    Ok(layout_of(version))
 }
 
 // What is judged of a capture before its records: the version byte and the bytes in use.
-pub fn front(buf: &[u8], used: usize) -> Version
-    ensures { said_front result ≡ front_of buf.now used }
+pub fn front(buf: &[u8], used: usize) -> Result<Layout, Refusal>
+    ensures { said result ≡ front_of buf.now used }
 {
-    let v = version_in(buf, used);
-    match v {
-        Version::Refused(k) => Version::Refused(k),
-        Version::Of(layout) => {
-            if buf.len() < used {
-                Version::Refused(15)
-            } else {
-                Version::Of(layout)
-            }
-        }
+    let layout = version_in(buf, used)?;
+    if buf.len() < used {
+        return Err(Refusal::BadRecord);
     }
+    Ok(layout)
 }
 
-// The record at a place, behind one of these seconds.
-pub fn follow(layout: Layout, s: &[u8], at: usize, last: Seconds) -> Standing
-    ensures { saidStanding result ≡ standing at (next_at (width_of layout) last (drop at s.now)) }
+// The record at a place, behind one of these seconds; none where no good one stands there.
+pub fn follow(layout: Layout, s: &[u8], at: usize, last: Option<u32>) -> Option<Stored>
+    ensures { said_standing result ≡ standing at (next_at (width_of layout) last (drop at s.now)) }
 {
-    let r = record::read(layout, s, at);
-    let Standing::Good(x) = r else {
-        return Standing::Bad;
-    };
+    let x = record::read(layout, s, at)?;
     if summary::not_before(last, x.seconds) {
-        Standing::Good(x)
+        Some(x)
     } else {
-        Standing::Bad
+        None
     }
 }
 
@@ -136,13 +96,10 @@ fn walk(layout: Layout, s: &[u8], from: Mark) -> Mark
 {
     let mut at = from.used;
     let mut last = from.last;
-    while at < s.len() {
-        let r = follow(layout, s, at, last);
-        let Standing::Good(x) = r else {
-            return Mark { used: at, last };
-        };
+    // a `while`: the step is the length of the record that was read
+    while let Some(x) = follow(layout, s, at, last) {
         at = x.next;
-        last = Seconds::At(x.seconds);
+        last = Some(x.seconds);
     }
     Mark { used: at, last }
 }
@@ -151,14 +108,16 @@ fn walk(layout: Layout, s: &[u8], from: Mark) -> Mark
 pub fn keep(used: usize, summary: Summary) -> Kept
     ensures { result ≡ record { mark = record { used = used; last = summary.last }; summary = summary } }
 {
-    let last = summary.last;
     Kept {
-        mark: Mark { used, last },
+        mark: Mark {
+            used,
+            last: summary.last,
+        },
         summary,
     }
 }
 
-// Nothing in use, and nothing counted: what stands beside a refusal.
+// Nothing in use, and nothing counted: what programs in C are shown beside a refusal (crate c_capture).
 pub fn nothing_kept() -> Kept
     ensures { result ≡ nothing_kept }
 {
@@ -172,137 +131,73 @@ fn tally(layout: Layout, s: &[u8]) -> Kept
 {
     let mut place: usize = 1;
     let mut x = summary::nothing();
-    while place < s.len() {
-        let last = x.last;
-        let r = follow(layout, s, place, last);
-        let Standing::Good(y) = r else {
-            return keep(place, x);
-        };
-        let event = y.event;
-        let kind = event.kind;
-        let c = summary::count(x, y.seconds, kind);
-        let went = c.went;
-        let Went::Well = went else {
+    // a `while`, as in `walk`
+    while let Some(y) = follow(layout, s, place, x.last) {
+        let Ok(more) = summary::count(x, y.seconds, y.event.kind) else {
             return keep(place, x);
         };
         place = y.next;
-        x = c.summary;
+        x = more;
     }
     keep(place, x)
 }
 
 // Opens a capture: walks it once, and hands out its mark.
-pub fn open(buf: &[u8], used: usize) -> Opening
-    ensures { said_opening result ≡ opened buf.now used }
+pub fn open(buf: &[u8], used: usize) -> Result<Mark, Refusal>
+    ensures { said result ≡ opened buf.now used }
 {
-    let f = front(buf, used);
-    match f {
-        Version::Refused(k) => Opening::Refused(k),
-        Version::Of(layout) => {
-            let start = Mark {
-                used: 1,
-                last: Seconds::Absent,
-            };
-            let m = walk(layout, &buf[..used], start);
-            if m.used < used {
-                Opening::Refused(15)
-            } else {
-                Opening::Open(m)
-            }
-        }
+    let layout = front(buf, used)?;
+    let start = Mark {
+        used: 1,
+        last: None,
+    };
+    let m = walk(layout, &buf[..used], start);
+    if m.used < used {
+        return Err(Refusal::BadRecord);
     }
+    Ok(m)
 }
 
-// A refusal to count: beside it stands the summary of no records.
-fn uncounted(k: u8) -> Counting
-    ensures { result ≡ counting (refused k) (counted_in []) }
+// Counts a capture afresh: its good records, where they are all of it.
+pub fn count(buf: &[u8], used: usize) -> Result<Summary, Refusal>
+    ensures { said result ≡ counted buf.now used }
 {
-    Counting {
-        went: Went::Refused(k),
-        summary: summary::nothing(),
-    }
-}
-
-// Counts the good records of a capture, and whether they are all of it.
-fn count_in(layout: Layout, s: &[u8]) -> Counting
-    requires { 1 ≤ length s.now }
-    ensures { result ≡ counting (counted_all (width_of layout) s.now) (counted_in []) }
-{
+    let layout = front(buf, used)?;
+    let s = &buf[..used];
     let k = tally(layout, s);
-    let from = k.mark;
-    let m = walk(layout, s, from);
+    let m = walk(layout, s, k.mark);
     if m.used < s.len() {
-        return uncounted(15);
+        return Err(Refusal::BadRecord);
     }
-    if from.used < s.len() {
-        return uncounted(8);
+    if k.mark.used < s.len() {
+        return Err(Refusal::NoRoom);
     }
-    let summary = k.summary;
-    Counting {
-        went: Went::Well,
-        summary,
-    }
-}
-
-// Counts a capture afresh. On a refusal the summary is that of no records.
-pub fn count(buf: &[u8], used: usize) -> Counting
-    ensures { result ≡ counting (counted buf.now used) (counted_in []) }
-{
-    let f = front(buf, used);
-    match f {
-        Version::Refused(k) => uncounted(k),
-        Version::Of(layout) => count_in(layout, &buf[..used]),
-    }
+    Ok(k.summary)
 }
 
 // The longest good capture at the front of the bytes in use, whatever follows it: what a torn write left. Bytes claimed beyond the
-// buffer's end count as not there. On a refusal nothing is in use and nothing is counted.
-pub fn prefix(buf: &[u8], used: usize) -> Found
-    ensures { result ≡ found (prefixed buf.now used) nothing_kept }
+// buffer's end count as not there.
+pub fn prefix(buf: &[u8], used: usize) -> Result<Kept, Refusal>
+    ensures { said result ≡ prefixed buf.now used }
 {
-    let v = version_in(buf, used);
-    match v {
-        Version::Refused(k) => Found {
-            went: Went::Refused(k),
-            kept: nothing_kept(),
-        },
-        Version::Of(layout) => {
-            if buf.len() < used {
-                return Found {
-                    went: Went::Well,
-                    kept: tally(layout, buf),
-                };
-            }
-            Found {
-                went: Went::Well,
-                kept: tally(layout, &buf[..used]),
-            }
-        }
-    }
+    let layout = version_in(buf, used)?;
+    let there = used.min(buf.len());
+    Ok(tally(layout, &buf[..there]))
 }
 
 // The record that begins at a place of a capture: its seconds, its event, and the place of the next. 12 at the end of the bytes in use.
 // The records before it are not looked at.
-pub fn step(buf: &[u8], used: usize, place: usize) -> Next
-    ensures { said_step result ≡ step_at buf.now used place }
+pub fn step(buf: &[u8], used: usize, place: usize) -> Result<Stored, Refusal>
+    ensures { said_of said_stored result ≡ step_at buf.now used place }
 {
-    let f = front(buf, used);
-    match f {
-        Version::Refused(k) => Next::Refused(k),
-        Version::Of(layout) => {
-            if place == used {
-                return Next::Refused(12);
-            }
-            if place < 1 {
-                return Next::Refused(15);
-            }
-            let r = record::read(layout, &buf[..used], place);
-            match r {
-                Standing::Bad => Next::Refused(15),
-                Standing::Good(x) => Next::Record(x),
-            }
-        }
+    let layout = front(buf, used)?;
+    if place == used {
+        return Err(Refusal::NoneThere);
     }
+    if place < 1 {
+        return Err(Refusal::BadRecord);
+    }
+    record::read(layout, &buf[..used], place).ok_or(Refusal::BadRecord)
 }
 
 // The datagram of that record, as that part of the caller's own buffer; empty where none is good.
@@ -311,16 +206,8 @@ pub fn datagram(buf: &[u8], used: usize, place: usize) -> &[u8]
         × (result.ref_ptr.0 ≡ buf.entry.ref_ptr.0)
         × (result.ref_ptr.1 ≡ datagram_start buf.now used place + buf.entry.ref_ptr.1) }
 {
-    let r = step(buf, used, place);
-    match r {
-        Next::Record(x) => {
-            let start = place + record::HEAD;
-            let e = x.next;
-            &buf[start..e]
-        }
-        Next::Refused(_) => {
-            let start = 0;
-            &buf[start..start]
-        }
+    match step(buf, used, place) {
+        Ok(x) => &buf[place + record::HEAD..x.next],
+        Err(_) => &buf[..0],
     }
 }

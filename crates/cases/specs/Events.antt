@@ -1,11 +1,11 @@
 -- Document 02, W-206: "Our bench unit sends event datagrams with two target bytes, not the three of the source's table." Source 002 prints
 -- five events, all with two, the last with a wrong sum; here in both layouts, with the least event of each, and with a datagram that is a
 -- frame of both and says two things.
-use Rattle.std.specs.Prelude.{ℕ, refl, List, [], ◌∷◌}
+use Rattle.std.specs.Prelude.{ℕ, Option, Some, None, refl, List, [], ◌∷◌}
 use Rattle.refusal.specs.Answer.{Answer, refused, full}
 use Rattle.sum.specs.Sum.{sum_from}
 use Rattle.order.specs.Order.{number_by}
-use Rattle.event_type.specs.Types.{Kind, by_name, Carried, carried, none}
+use Rattle.event_type.specs.Types.{by_name}
 use Rattle.event.specs.declared.Mac.{Mac}
 use Rattle.event.specs.declared.Layout.TheVariants.{Three, Two}
 use Rattle.event.specs.Reading.{Told, read_event}
@@ -15,7 +15,7 @@ use Rattle.cases.specs.Cases.{Case, event, AllHold}
 abbrev pub printed_mac : Mac
 printed_mac = record { 0 = 0x7C; 1 = 0xBA; 2 = 0xCC; 3 = 0x2F; 4 = 0x40; 5 = 0x2E }
 
-abbrev pub told : ℕ → ℕ → ℕ → Carried → Answer Told
+abbrev pub told : ℕ → ℕ → ℕ → Option ℕ → Answer Told
 told t k n i = full (record { mac = printed_mac; target = t; kind = by_name k; n = n; instance = i })
 
 abbrev pub from : List ℕ → List ℕ
@@ -53,12 +53,12 @@ either = from (0x01 ∷ 0x02 ∷ 0x03 ∷ 0x07 ∷ 0x06 ∷ 0x06 ∷ 0x01 ∷ 0x
 
 abbrev pub event_cases : List Case
 event_cases =
-    event Two pressed (told 59 0 1 (carried 5))
-    ∷ event Two coloured (told 59 8 7 none)
-    ∷ event Two warmed (told 59 8 3 none)
-    ∷ event Two levelled (told 59 3 1 none)
+    event Two pressed (told 59 0 1 (Some 5))
+    ∷ event Two coloured (told 59 8 7 None)
+    ∷ event Two warmed (told 59 8 3 None)
+    ∷ event Two levelled (told 59 3 1 None)
     ∷ event Two (profiled 0x59) (refused 6)
-    ∷ event Two (profiled 0x56) (told 0 9 2 none)
+    ∷ event Two (profiled 0x56) (told 0 9 2 None)
     ∷ event Three pressed (refused 5)
     ∷ event Three coloured (refused 4)
     ∷ event Three warmed (refused 5)
@@ -66,11 +66,11 @@ event_cases =
     ∷ event Three (profiled 0x59) (refused 5)
     ∷ event Three (profiled 0x56) (refused 5)
     ∷ event Two cut12 (refused 1)
-    ∷ event Two least13 (told 59 3 0 none)
+    ∷ event Two least13 (told 59 3 0 None)
     ∷ event Three least13 (refused 1)
-    ∷ event Three least14 (told 59 3 0 none)
-    ∷ event Two either (told 258 3 7 none)
-    ∷ event Three either (told 66051 7 6 (carried 6))
+    ∷ event Three least14 (told 59 3 0 None)
+    ∷ event Two either (told 258 3 7 None)
+    ∷ event Three either (told 66051 7 6 (Some 6))
     ∷ []
 
 -- THE CLAIM

@@ -1,5 +1,5 @@
 -- Document 02, W-201: "A1 takes D 0–15; 1B keeps 0–12." At the ends of both ranges, as datagrams and as items of the request line.
-use Rattle.std.specs.Prelude.{ℕ, ◌≡◌, refl, false, List, [], ◌∷◌, ◌++◌}
+use Rattle.std.specs.Prelude.{ℕ, refl, false, List, [], ◌∷◌, ◌++◌}
 use Rattle.refusal.specs.Answer.{refused, full}
 use Rattle.sum.specs.Sum.{sum_from}
 use Rattle.order.specs.Order.{number_by}

@@ -1,5 +1,5 @@
 -- THE LAW of what "accepted" excludes, from its parts in specs/Law.antt: of any family of frames that meets demand 2.
-use Rattle.std.specs.Prelude.{ℕ, ◌%◌, ◌<◌, ◌≡◌, Bool, ◌&&◌, List, length, get_or, set}
+use Rattle.std.specs.Prelude.{ℕ, ◌%◌, ◌<◌, ◌≡◌, ◌&&◌, List, length, get_or, set}
 use Rattle.std.proofs.Common.{sym, ◌∙◌, eq-eqb}
 use Rattle.std.proofs.Math.Bool.{and-true}
 use Rattle.std.specs.Int.Bits.{bit_xor}

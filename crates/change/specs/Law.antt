@@ -1,10 +1,9 @@
 -- What "accepted" excludes, once: of any family of frames that meets demand 2. Of the record of demand 2 it takes that what is accepted is a
 -- frame, and that the exclusive-or of each frame is 0.
 use Rattle.std.specs.Prelude.{ℕ, ◌%◌, ◌<◌, ◌≡◌, refl, Bool, true, false, ◌&&◌, List, [], ◌∷◌, length, get_or, set, eqb}
-use Rattle.std.proofs.Common.{sym, ap, ◌∙◌, eqb-true, eq-eqb, ne_eqb}
+use Rattle.std.proofs.Common.{sym, ap, ◌∙◌, eqb-true, ne_eqb}
 use Rattle.std.proofs.Math.Bool.{and-true, and-false}
 use Rattle.std.specs.Int.Bits.{bit_xor, xor_zero_l}
-use Rattle.std.proofs.lemmas.Nat.{xor_comm}
 use Rattle.std.proofs.lemmas.Bool.{eqb-false}
 use Rattle.refusal.specs.Test.{clash}
 use Rattle.refusal.specs.Answer.{Answer, refused, full, is_full}
@@ -13,11 +12,10 @@ use Rattle.sum.specs.Sum.{sum_from, sum_of}
 use Rattle.sum.specs.Sums.{sum_cons}
 use Rattle.sum.specs.Xor.{xor_cancel, xor_none}
 use Rattle.frame.specs.Demand2.{Demand2}
-use Rattle.order.specs.Order.{place_of}
 use Rattle.maps.specs.Bits.{bit_of_zero}
-use Rattle.change.specs.Change.{mended, changed, times, evenly}
-use Rattle.change.specs.Changes.{sum_changed, changed_bytes, times_sum, evenly_sum, changed_set, changed_two, burst_odd, mended_same}
-use Rattle.change.specs.Excludes.{Beside, Excludes}
+use Rattle.change.specs.Change.{mended, changed, times}
+use Rattle.change.specs.Changes.{sum_changed, times_sum, changed_set, changed_two, mended_same}
+use Rattle.change.specs.Excludes.{Beside}
 
 -- the sum of one byte, and of two
 sum_one : (m : ℕ) → sum_of (m ∷ []) ≡ m

@@ -1,9 +1,9 @@
 -- Document 02, W-211: "Write beside it, with a worked pair, that two changed bytes may pass." One pair for each family and layout, both by their
 -- bytes: accepted both, with two bytes changed by the same bits, and saying two things. Beside them what does not pass.
-use Rattle.std.specs.Prelude.{ℕ, ◌≡◌, refl, false, List, [], ◌∷◌, T, ltb}
+use Rattle.std.specs.Prelude.{ℕ, Ok, Some, ◌≡◌, refl, false, List, [], ◌∷◌, T, ltb}
 use Rattle.std.proofs.Common.{lit<, arith}
 use Rattle.refusal.specs.Test.{clash}
-use Rattle.refusal.specs.Answer.{Answer, refused, full}
+use Rattle.refusal.specs.Answer.{Answer, refused, full, said}
 use Rattle.sum.specs.Bytes.{Bytes, bytes_none, bytes_cons}
 use Rattle.sum.specs.Sum.{sum_from}
 use Rattle.order.specs.Order.{number_by}
@@ -16,9 +16,8 @@ use Rattle.meaning.specs.Meaning.{filter, meaning_of}
 use Rattle.request.specs.Said.{Heard, heard, arguments, coloured}
 use Rattle.request.specs.Reading.{read_basic, read_coloured, read_request}
 use Rattle.reply.specs.declared.Reply.{Reply}
-use Rattle.reply.specs.declared.Reading.TheVariants.{Accepted}
-use Rattle.reply.specs.Reading.{said, read_reply}
-use Rattle.event_type.specs.Types.{by_name, carried}
+use Rattle.reply.specs.Reading.{read_reply}
+use Rattle.event_type.specs.Types.{by_name}
 use Rattle.event.specs.declared.Layout.TheVariants.{Three, Two}
 use Rattle.event.specs.Layout.{width_of}
 use Rattle.event.specs.Reading.{Told, read_event}
@@ -64,7 +63,7 @@ pressed_at t i =
       target = t;
       kind = by_name 0;
       n = 1;
-      instance = carried i;
+      instance = Some i;
     }
 
 -- THE PAIRS
@@ -94,11 +93,11 @@ loose d = read_reply (mended d)
 pub loose_passes : Excludes said loose → ⊥
 unfolding sum_from read_reply
 loose_passes c =
-    let e = c.one_changed (okay 0x00 0xA0) 3 0xA1 (Accepted (okay_to 0)) (Accepted (okay_to 0)) (omega arith) (λ q. absurd (omega arith)) beside in
+    let e = c.one_changed (okay 0x00 0xA0) 3 0xA1 (Ok (okay_to 0)) (Ok (okay_to 0)) (omega arith) (λ q. absurd (omega arith)) beside in
     clash (cc)
   where
     bytes : (z : ℕ) → T (ltb z 256) → Bytes (okay 0x00 z)
     bytes z h = bytes_cons (omega arith) (bytes_cons (omega arith) (bytes_cons (omega arith) (bytes_cons (lit< h) bytes_none)))
 
-    beside : Beside said loose (okay 0x00 0xA0) (okay 0x00 0xA1) (Accepted (okay_to 0)) (Accepted (okay_to 0))
+    beside : Beside said loose (okay 0x00 0xA0) (okay 0x00 0xA1) (Ok (okay_to 0)) (Ok (okay_to 0))
     beside = record { bytes = bytes 0xA0 tt; bytes' = bytes 0xA1 tt; long = refl; answer = refl; answer' = refl; taken = refl }

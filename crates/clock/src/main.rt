@@ -4,7 +4,7 @@
 
 ghost use Rattle.std.specs.Prelude.{◌≤◌, ◌≡◌, ◌+◌, length, IfOk};
 
-use clock_asked::DayAsked;
+use clock_asked::NoDay;
 use std::env::FillError;
 use std::io;
 use std::io::Read;
@@ -23,10 +23,9 @@ const LAST: usize = ROOM - clock_rows::ROW;
 // The most bytes of an argument: as many as a path has.
 const WORD: usize = 4095;
 
-// How the input was read: so many bytes, or not.
-#[derive(Drop)]
-enum Got {
-    Bytes(usize),
+// Why there is no input.
+#[derive(Clone, Copy, Debug, PartialEq, Eq)]
+enum NoInput {
     Failed,
     Long,
 }
@@ -67,35 +66,26 @@ Example: clock 2026-03-02 < site.clocks\n",
     );
 }
 
-// Writes so many bytes of a text, and says whether that went well.
-fn write(to: &impl Print, out: &[u8], n: usize) -> bool
-    requires { n ≤ length out.now }
-{
-    to.write_all(&out[..n]).is_ok()
-}
-
-// Prints the header and the rows, and whether that went well. Rows are written when no other has room behind them, before something is told of a line, and
-// at the end.
-fn print(rt: &HostRuntime, midnight: u32, text: &[u8]) -> bool {
+// Prints the header and the rows. Rows are written when no other has room behind them, before something is told of a line, and at the end.
+fn print(rt: &HostRuntime, midnight: u32, text: &[u8]) -> io::Result<()> {
     let mut out = [0u8; ROOM];
     let mut err = [0u8; clock_told::TOLD];
     let mut at = clock_rows::header(&mut out, 0);
     let mut i: usize = 0;
     let mut n: u64 = 1;
+    // A turn steps over a line, however long it is.
     while i < text.len() {
         let t = clock_rows::turn(midnight, text, i, n, &mut out, at, &mut err);
         i = t.next;
         n += 1;
         at = t.at;
-        if (0 < t.told) | (LAST < at) {
-            if !write(rt, &out, at) {
-                return false;
-            }
+        if 0 < t.told || LAST < at {
+            rt.write_all(&out[..at])?;
             at = 0;
-            write(&rt.stderr(), &err, t.told);
+            let _ = rt.stderr().write_all(&err[..t.told]);
         }
     }
-    write(rt, &out, at)
+    rt.write_all(&out[..at])
 }
 
 // Reads once behind what was read.
@@ -107,48 +97,46 @@ fn read_behind(input: &mut impl Read, buf: &mut [u8], n: usize) -> io::Result<us
 }
 
 // Reads standard input to its end, or until there is no room. (The loop has to count: nothing says that input ends.)
-fn read_all(input: &mut impl Read, buf: &mut [u8]) -> Got {
+fn read_all(input: &mut impl Read, buf: &mut [u8]) -> Result<usize, NoInput>
+    ensures { IfOk result (λ n. n ≤ length buf.new) }
+{
     let mut n: usize = 0;
     for _ in 0..u64::MAX {
         if buf.len() <= n {
-            return Got::Long;
+            return Err(NoInput::Long);
         }
         let Ok(k) = read_behind(input, buf, n) else {
-            return Got::Failed;
+            return Err(NoInput::Failed);
         };
         if k == 0 {
-            return Got::Bytes(n);
+            return Ok(n);
         }
         n += k;
     }
-    Got::Long
+    Err(NoInput::Long)
 }
 
 // The input read, and the rows printed.
 fn rows(rt: &HostRuntime, midnight: u32) {
     let mut buf = space();
-    let got = read_all(&mut rt.stdin(), &mut buf);
-    match got {
-        Got::Bytes(n) => {
-            if n <= SPACE {
-                if !print(rt, midnight, &buf[..n]) {
-                    complain(rt, b"writing standard output failed", b"");
-                }
+    match read_all(&mut rt.stdin(), &mut buf) {
+        Ok(n) => {
+            if print(rt, midnight, &buf[..n]).is_err() {
+                complain(rt, b"writing standard output failed", b"");
             }
         }
-        Got::Failed => complain(rt, b"reading standard input failed", b""),
-        Got::Long => complain(rt, b"standard input has more than 1048576 bytes", b""),
+        Err(NoInput::Failed) => complain(rt, b"reading standard input failed", b""),
+        Err(NoInput::Long) => complain(rt, b"standard input has more than 1048576 bytes", b""),
     }
 }
 
 // The day that the argument says, and its rows.
 fn day(rt: &HostRuntime, word: &[u8]) {
-    let asked = clock_asked::day_of(word);
-    match asked {
-        DayAsked::Midnight(t) => rows(rt, t),
-        DayAsked::NotADate => complain(rt, b"DATE is not a date as in 2026-03-02: ", word),
-        DayAsked::NoSuchDate => complain(rt, b"DATE is a date that does not exist: ", word),
-        DayAsked::Outside => complain(
+    match clock_asked::day_of(word) {
+        Ok(midnight) => rows(rt, midnight),
+        Err(NoDay::NotADate) => complain(rt, b"DATE is not a date as in 2026-03-02: ", word),
+        Err(NoDay::NoSuchDate) => complain(rt, b"DATE is a date that does not exist: ", word),
+        Err(NoDay::Outside) => complain(
             rt,
             b"DATE is a date before 2000-01-01 or behind 2099-12-31: ",
             word,

@@ -1,24 +1,20 @@
 -- What is claimed of the day: weekdays go round, the day is one that clocks are asked of; and worked examples.
-use Rattle.std.specs.Prelude.{ℕ, suc, ◌+◌, ◌-◌, ◌/◌, ◌≤◌, ◌<◌, ◌≡◌, refl, Bool, true, false, ◌&&◌, List, take, drop, eqb, leb}
+use Rattle.std.specs.Prelude.{ℕ, Option, Some, None, Result, Ok, Err, suc, ◌+◌, ◌-◌, ◌/◌, ◌≤◌, ◌<◌, ◌≡◌, refl, Bool, true, false, ◌&&◌, List, take, drop, eqb, leb}
 use Rattle.std.proofs.Common.{leb-true, le-leb, eqb-true, mod-lt, arith}
 use Rattle.std.proofs.lemmas.Bool.{eqb-false}
 use Rattle.refusal.specs.Test.{pick, pick_elim, clash, both_left, both_right}
 use Rattle.words.specs.Words.{text}
 use Rattle.text.specs.Decimal.{value_from}
 use Rattle.calendar.specs.declared.Date.{Date}
-use Rattle.calendar.specs.declared.Midnight.{Midnight}
-use Rattle.calendar.specs.declared.Midnight.TheVariants.{At as Midnight-at, NoSuchDate as Midnight-no-such-date, Outside as Midnight-outside}
+use Rattle.calendar.specs.declared.NoMidnight.{NoMidnight}
 use Rattle.calendar.specs.Calendar.{is_leap, days_in, sum, days_of, is_date, days_of_first, midnight_of, month_from, year_from, date_of}
 use Rattle.calendar.specs.Lengths.{months_most, month_most, years_least, years_most}
 use Rattle.calendar.specs.Counts.{Lies}
 use Rattle.calendar.specs.Back.{date_there, lies, lies_at}
-use Rattle.asked.specs.declared.Number.{Number}
-use Rattle.asked.specs.declared.Number.TheVariants.{Of, Not}
-use Rattle.asked.specs.declared.Boundary.{Boundary}
-use Rattle.asked.specs.declared.Boundary.TheVariants.{At, Neither, NoSuchDate, Outside}
+use Rattle.asked.specs.declared.NoBoundary.{NoBoundary}
 use Rattle.asked.specs.Asked.{all_digits, number_of, as_boundary, on_date, by_date}
 use Rattle.clock_day.specs.Day.{is_given}
-use Rattle.clock_asked.specs.declared.DayAsked.TheVariants.{Midnight as Day-midnight, NotADate, NoSuchDate as No-such-date, Outside as Out-of-years}
+use Rattle.clock_asked.specs.declared.NoDay.TheVariants.{NotADate, NoSuchDate, Outside}
 use Rattle.clock_asked.specs.Asked.{is_parted, in_years, within, day_of, weekday_of, given_of}
 
 -- WEEKDAYS. There are seven, and a day's is one up from that of the day before, round from 6 to 0
@@ -38,19 +34,18 @@ unfolding is_given given_of
 years_given t h e = rw (le-leb (weekday_of t) 6 (weekday_most t), e, date_there t h)
 
 -- a date's midnight is a number of 32 bits
-date_fits : (y m d : Number) (t : ℕ) → on_date y m d ≡ At t → t < 4294967296
-date_fits (Of y) (Of m) (Of d) t e = go (midnight_of (record { year = y; month = m; day = d })) refl e
+date_fits : (y m d : Option ℕ) (t : ℕ) → on_date y m d ≡ Ok t → t < 4294967296
+date_fits (Some y) (Some m) (Some d) t e = go (midnight_of (record { year = y; month = m; day = d })) refl e
   where
-    go : (x : Midnight) → midnight_of (record { year = y; month = m; day = d }) ≡ x → as_boundary x ≡ At t → t < 4294967296
-    go (Midnight-at u) p q = let z : u ≡ t = cc in omega (arith, (lies_at (record { year = y; month = m; day = d }) u p).0)
-    go Midnight-no-such-date p q = clash (cc)
-    go Midnight-outside p q = clash (cc)
-date_fits (Of y) (Of m) Not t e = clash (cc)
-date_fits (Of y) Not d t e = clash (cc)
-date_fits Not m d t e = clash (cc)
+    go : (x : Result ℕ NoMidnight) → midnight_of (record { year = y; month = m; day = d }) ≡ x → as_boundary x ≡ Ok t → t < 4294967296
+    go (Ok u) p q = let z : u ≡ t = cc in omega (arith, (lies_at (record { year = y; month = m; day = d }) u p).0)
+    go (Err n) p q = clash (cc)
+date_fits (Some y) (Some m) None t e = clash (cc)
+date_fits (Some y) None d t e = clash (cc)
+date_fits None m d t e = clash (cc)
 
 -- so a day that is asked of is one that no clock refuses
-pub day_given : (s : List ℕ) (t : ℕ) → day_of s ≡ Day-midnight t → is_given (given_of t) ≡ true
+pub day_given : (s : List ℕ) (t : ℕ) → day_of s ≡ Ok t → is_given (given_of t) ≡ true
 unfolding day_of by_date
 day_given s t h =
     pick_elim (is_parted s)
@@ -58,15 +53,13 @@ day_given s t h =
     (λ p q. clash (cc))
     h
   where
-    go : (b : Boundary) → ((u : ℕ) → b ≡ At u → u < 4294967296) → within b ≡ Day-midnight t → is_given (given_of t) ≡ true
-    go (At u) f e =
+    go : (b : Result ℕ NoBoundary) → ((u : ℕ) → b ≡ Ok u → u < 4294967296) → within b ≡ Ok t → is_given (given_of t) ≡ true
+    go (Ok u) f e =
         pick_elim (in_years u)
         (λ p q. let z : u ≡ t = cc in rw z at (years_given u (f u refl) p))
         (λ p q. clash (cc))
         e
-    go Neither f e = clash (cc)
-    go NoSuchDate f e = clash (cc)
-    go Outside f e = clash (cc)
+    go (Err n) f e = clash (cc)
 
 -- and of such a day, two days before it and two days behind it are numbers of 32 bits too
 pub given_between : (t : ℕ) → t < 4294967296 → is_given (given_of t) ≡ true → (172800 ≤ t) × (t + 172800 < 4294967296)
@@ -87,7 +80,7 @@ given_between t h e =
     )
 
 -- EXAMPLES. A Sunday, and a Saturday
-pub spring : day_of (text "2026-03-01") ≡ Day-midnight 1772323200
+pub spring : day_of (text "2026-03-01") ≡ Ok 1772323200
 unfolding day_of number_of all_digits value_from by_date is_leap days_in sum days_of days_of_first midnight_of month_from year_from
 spring = refl
 
@@ -95,7 +88,7 @@ pub a_sunday : given_of 1772323200 ≡ record { year = 2026; month = 3; day = 1;
 unfolding given_of is_leap sum days_of month_from year_from
 a_sunday = refl
 
-pub first_day : day_of (text "2000-01-01") ≡ Day-midnight 946684800
+pub first_day : day_of (text "2000-01-01") ≡ Ok 946684800
 unfolding day_of number_of all_digits value_from by_date is_leap days_in sum days_of days_of_first midnight_of month_from year_from
 first_day = refl
 
@@ -104,27 +97,27 @@ unfolding given_of is_leap sum days_of month_from year_from
 a_saturday = refl
 
 -- the last day, and those outside
-pub last_day : day_of (text "2099-12-31") ≡ Day-midnight 4102358400
+pub last_day : day_of (text "2099-12-31") ≡ Ok 4102358400
 unfolding day_of number_of all_digits value_from by_date is_leap days_in sum days_of days_of_first midnight_of month_from year_from
 last_day = refl
 
-pub too_late : day_of (text "2100-01-01") ≡ Out-of-years
+pub too_late : day_of (text "2100-01-01") ≡ Err Outside
 unfolding day_of number_of all_digits value_from by_date is_leap days_in sum days_of days_of_first midnight_of month_from year_from
 too_late = refl
 
-pub too_early : day_of (text "1999-12-31") ≡ Out-of-years
+pub too_early : day_of (text "1999-12-31") ≡ Err Outside
 unfolding day_of number_of all_digits value_from by_date is_leap days_in sum days_of days_of_first midnight_of month_from year_from
 too_early = refl
 
 -- a date that does not exist is none of another year either; and a number of seconds is no date
-pub no_such_day : day_of (text "1999-02-30") ≡ No-such-date
+pub no_such_day : day_of (text "1999-02-30") ≡ Err NoSuchDate
 unfolding day_of number_of all_digits value_from by_date is_leap days_in midnight_of
 no_such_day = refl
 
-pub no_seconds : day_of (text "1772323200") ≡ NotADate
+pub no_seconds : day_of (text "1772323200") ≡ Err NotADate
 unfolding day_of
 no_seconds = refl
 
-pub no_digit : day_of (text "2026-3 -01") ≡ NotADate
+pub no_digit : day_of (text "2026-3 -01") ≡ Err NotADate
 unfolding day_of number_of all_digits value_from by_date
 no_digit = refl

@@ -1,5 +1,5 @@
 -- What is known of the date of a second, and of a date of ten bytes.
-use Rattle.std.specs.Prelude.{ℕ, zero, suc, ◌-◌, ◌/◌, ◌≤◌, ◌<◌, ◌≡◌, Bool, ◌&&◌, List, [], ◌∷◌, length, get_or, eqb, ltb, leb}
+use Rattle.std.specs.Prelude.{ℕ, None, Ok, Err, zero, suc, ◌-◌, ◌/◌, ◌≤◌, ◌<◌, ◌≡◌, Bool, ◌&&◌, List, [], ◌∷◌, length, get_or, eqb, ltb, leb}
 use Rattle.std.proofs.Math.Path.{refl}
 use Rattle.std.proofs.Math.Bool.{true, false}
 use borrow.Author.Tests.{leb-true, le-leb, lt-leb, eq-eqb, ne_eqb, eqb-true}
@@ -10,11 +10,10 @@ use Rattle.calendar.specs.Calendar.{is_leap, days_in, date_of}
 use Rattle.calendar.specs.Lengths.{february_leap, february_common, other_month, month_there, years_least}
 use Rattle.calendar.specs.Counts.{Lies}
 use Rattle.calendar.specs.Back.{lies}
-use Rattle.asked.specs.declared.Number.TheVariants.{Not}
-use Rattle.asked.specs.declared.Boundary.TheVariants.{At, Neither}
+use Rattle.asked.specs.declared.NoBoundary.TheVariants.{Neither}
 use Rattle.asked.specs.Asked.{is_digit, all_digits, is_number, number_of, by_date, boundary_of}
 use Rattle.clock_day.specs.declared.Given.{Given}
-use Rattle.clock_asked.specs.declared.DayAsked.TheVariants.{Midnight as Day-midnight, NotADate, Outside as Out-of-years}
+use Rattle.clock_asked.specs.declared.NoDay.TheVariants.{NotADate, Outside}
 use Rattle.clock_asked.specs.Asked.{within, day_of, weekday_of, given_of}
 
 -- DATES. No month has more than 31 days
@@ -80,17 +79,17 @@ dashed s i h e = go (is_number s) refl
     go true f = absurd (omega (arith, digit_least s i (both_right (ltb 0 (length s)) (all_digits s) f) h))
     go false f = refl
 
-no_number : (n : ℕ) (s : List ℕ) (i : ℕ) → i < length s → get_or s i 0 ≡ 45 → number_of n s ≡ Not
+no_number : (n : ℕ) (s : List ℕ) (i : ℕ) → i < length s → get_or s i 0 ≡ 45 → number_of n s ≡ None
 unfolding number_of
 no_number n s i h e = rw (dashed s i h e)
 
 -- what the code finds
 module _ (s : List ℕ) where
-  pub not_ten : (length s ≡ 10 → ⊥) → NotADate ≡ day_of s
+  pub not_ten : (length s ≡ 10 → ⊥) → Err NotADate ≡ day_of s
   unfolding day_of
   not_ten h = rw (ne_eqb (length s) 10 h)
 
-  pub not_dash : length s ≡ 10 → (get_or s 4 0 ≡ 45 → ⊥) → NotADate ≡ day_of s
+  pub not_dash : length s ≡ 10 → (get_or s 4 0 ≡ 45 → ⊥) → Err NotADate ≡ day_of s
   unfolding day_of
   not_dash l h = rw (eq-eqb (length s) 10 l, ne_eqb (get_or s 4 0) 45 h)
 
@@ -98,16 +97,16 @@ module _ (s : List ℕ) where
   unfolding boundary_of day_of
   dated l e = rw (no_number 4294967295 s 4 (omega arith) e, eq-eqb (length s) 10 l, eq-eqb (get_or s 4 0) 45 e) (go (eqb (get_or s 7 0) 45))
     where
-      go : (t : Bool) → within (pick t (by_date s) Neither) ≡ pick t (within (by_date s)) NotADate
+      go : (t : Bool) → within (pick t (by_date s) (Err Neither)) ≡ pick t (within (by_date s)) (Err NotADate)
       go true = refl
       go false = refl
 
 module _ (t : ℕ) where
-  pub too_early : (date_of t).year < 2000 → Out-of-years ≡ within (At t)
+  pub too_early : (date_of t).year < 2000 → Err Outside ≡ within (Ok t)
   too_early h = rw (lt-leb 2000 (date_of t).year h)
 
-  pub too_late : 2000 ≤ (date_of t).year → 2099 < (date_of t).year → Out-of-years ≡ within (At t)
+  pub too_late : 2000 ≤ (date_of t).year → 2099 < (date_of t).year → Err Outside ≡ within (Ok t)
   too_late h l = rw (le-leb 2000 (date_of t).year h, lt-leb (date_of t).year 2099 l)
 
-  pub in_time_lem : 2000 ≤ (date_of t).year → (date_of t).year ≤ 2099 → Day-midnight t ≡ within (At t)
+  pub in_time_lem : 2000 ≤ (date_of t).year → (date_of t).year ≤ 2099 → Ok t ≡ within (Ok t)
   in_time_lem h l = rw (le-leb 2000 (date_of t).year h, le-leb (date_of t).year 2099 l)

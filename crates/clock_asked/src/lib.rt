@@ -3,9 +3,9 @@
 #![tactic(auto)]
 
 ghost use Rattle.std.specs.Prelude.{◌≡◌};
-ghost use Rattle.clock_asked.specs.Asked.{within, day_of, given_of};
+ghost use Rattle.clock_asked.specs.Asked.{no_day, day_of, given_of};
 
-use asked::Boundary;
+use asked::NoBoundary;
 use clock_day::Given;
 
 // "2000-01-01 to 2099-12-31"
@@ -19,51 +19,46 @@ const DAY: u32 = 86400;
 // The weekday of 1970-01-01, a Thursday, from Sunday.
 const THURSDAY: u32 = 4;
 
-// The midnight with which a day begins, in seconds since 1970; or that the bytes are no date; or what is wrong with the date.
-#[derive(Drop)]
-pub enum DayAsked {
-    Midnight(u32),
+// Why bytes are no day: they are no date; or what is wrong with the date.
+#[derive(Clone, Copy, Debug, PartialEq, Eq)]
+pub enum NoDay {
     NotADate,
     NoSuchDate,
     Outside,
 }
 
-// The day of a date, where its year is one of these.
-fn within(b: Boundary) -> DayAsked
-    ensures { result ≡ within b }
-{
-    match b {
-        Boundary::At(t) => {
-            let d = calendar::date_of(t);
-            if d.year < FIRST_YEAR {
-                return DayAsked::Outside;
-            }
-            if LAST_YEAR < d.year {
-                return DayAsked::Outside;
-            }
-            DayAsked::Midnight(t)
+impl From<NoBoundary> for NoDay {
+    ghost from_gives = { λ b d. d ≡ no_day b };
+
+    fn from(b: NoBoundary) -> NoDay {
+        match b {
+            NoBoundary::Neither => NoDay::NotADate,
+            NoBoundary::NoSuchDate => NoDay::NoSuchDate,
+            NoBoundary::Outside => NoDay::Outside,
         }
-        Boundary::Neither => DayAsked::NotADate,
-        Boundary::NoSuchDate => DayAsked::NoSuchDate,
-        Boundary::Outside => DayAsked::Outside,
     }
 }
 
-// The day that the bytes of a date say.
-pub fn day_of(s: &[u8]) -> DayAsked
+// The midnight, in seconds since 1970, with which the day begins that the bytes of a date say.
+#[tactic(auto, using(crate::specs::Dates::not_ten, crate::specs::Dates::not_dash, crate::specs::Dates::dated, crate::specs::Dates::too_early, crate::specs::Dates::too_late, crate::specs::Dates::in_time_lem))]
+pub fn day_of(s: &[u8]) -> Result<u32, NoDay>
     ensures { result ≡ day_of s.now }
 {
-    if s.len() != 10 {
-        return DayAsked::NotADate;
+    // A number of seconds, which crate asked takes too, has a digit in place 4.
+    if s.len() != 10 || s[4] != b'-' {
+        return Err(NoDay::NotADate);
     }
-    // A number of seconds, which crate asked takes too, has a digit here.
-    if s[4] != b'-' {
-        return DayAsked::NotADate;
+    let midnight = asked::boundary_of(s)?;
+    let year = calendar::date_of(midnight).year;
+    if FIRST_YEAR <= year && year <= LAST_YEAR {
+        Ok(midnight)
+    } else {
+        Err(NoDay::Outside)
     }
-    within(asked::boundary_of(s))
 }
 
 // The date of a midnight, and its weekday.
+#[tactic(auto, using(crate::specs::Dates::small, crate::specs::Dates::given))]
 pub fn given_of(midnight: u32) -> Given
     ensures { result ≡ given_of midnight }
 {

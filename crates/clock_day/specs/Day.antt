@@ -1,6 +1,6 @@
 -- Document 02, W-214: "Given a date, its weekday (0 to 6 from Sunday, as given) and whether the clock is astronomical, say whether it runs that day and
 -- at which second from midnight; an offset may carry it below 0 or past 86,399, and it is reported so."
-use Rattle.std.specs.Prelude.{ℕ, ◌+◌, ◌*◌, Bool, ◌&&◌, ◌||◌, List, eqb, leb, ℤ, pos, neg_ℤ, ◌+ℤ◌}
+use Rattle.std.specs.Prelude.{ℕ, ◌+◌, ◌*◌, Bool, Option, Some, None, ◌&&◌, ◌||◌, List, eqb, leb, ℤ, pos, neg_ℤ, ◌+ℤ◌}
 use Rattle.refusal.specs.Test.{pick}
 use Rattle.refusal.specs.Answer.{Answer, refused, full, demand}
 use Rattle.maps.specs.Bit.{bit}
@@ -11,8 +11,6 @@ use Rattle.clock_text.specs.declared.Offset.TheVariants.{Absent, Later, Earlier}
 use Rattle.clock_text.specs.declared.Clock.{Clock}
 use Rattle.clock_text.specs.Clock.{read_clock}
 use Rattle.clock_day.specs.declared.Given.{Given}
-use Rattle.clock_day.specs.declared.Run.{Run}
-use Rattle.clock_day.specs.declared.Run.TheVariants.{At, Idle, Refused}
 
 -- THE DAY. "a weekday over 6 or a given date that does not exist or lies outside those years is out of range": the years 2000 to 2099
 unfoldable pub is_given : Given → Bool
@@ -54,10 +52,10 @@ pub data Day : Type 0 where
   idle : Day
   second : ℤ → Day
 
-abbrev pub said : Run → Answer Day
-said (At z) = full (second z)
-said Idle = full idle
-said (Refused k) = refused k
+-- what an answer says, of whether there is a second at which it runs
+abbrev pub day_said : Option ℤ → Day
+day_said (Some z) = second z
+day_said None = idle
 
 -- of a clock that was read
 unfoldable pub on_day : Given → Answer Clock → Answer Day

@@ -3,10 +3,11 @@
 #![tactic(auto)]
 
 ghost use Rattle.std.specs.Prelude.{◌≤◌, ◌<◌, ◌≡◌};
-ghost use Rattle.clock_day.specs.Day.{is_given, runs_on, seconds_in, second_of, said, on_day, runs_at};
-ghost use Rattle.refusal.specs.Answer.{full};
+ghost use Rattle.clock_day.specs.Day.{is_given, runs_on, seconds_in, second_of, day_said, on_day, runs_at};
+ghost use Rattle.refusal.specs.Answer.{full, said_of};
 
-use clock_text::{Clock, Offset, Reading, Time};
+use clock_text::{Clock, Offset, Time};
+use refusal::Refusal;
 
 // "years mean 2000 to 2099"
 const FIRST_YEAR: u16 = 2000;
@@ -17,7 +18,7 @@ const LAST_YEAR: u16 = 2099;
 const LAST_WEEKDAY: u8 = 6;
 
 // A date that is given, with its weekday: no numbers are refused here.
-#[derive(Clone, Copy)]
+#[derive(Clone, Copy, Debug, PartialEq, Eq)]
 pub struct Given {
     pub year: u16,
     pub month: u8,
@@ -25,31 +26,15 @@ pub struct Given {
     pub weekday: u8,
 }
 
-// What a clock does on a day: it runs, at a second from midnight, which an offset may have carried below 0 or past 86,399; or it does not; or a refusal.
-#[derive(Clone, Copy)]
-pub enum Run {
-    At(i32),
-    Idle,
-    Refused(u8),
-}
-
 // Whether a date is there, in the years 2000 to 2099, and its weekday is one.
+#[tactic(auto, unfolding(crate::specs::Day::is_given))]
 pub fn is_given(g: Given) -> bool
     ensures { result ≡ is_given g }
 {
-    if LAST_WEEKDAY < g.weekday {
-        return false;
-    }
-    if g.year < FIRST_YEAR {
-        return false;
-    }
-    if LAST_YEAR < g.year {
-        return false;
-    }
-    if g.day == 0 {
-        return false;
-    }
-    (g.day as u32) <= calendar::days_in(g.year as u32, g.month as u32)
+    g.weekday <= LAST_WEEKDAY
+        && (FIRST_YEAR..=LAST_YEAR).contains(&g.year)
+        && 1 <= g.day
+        && u32::from(g.day) <= calendar::days_in(u32::from(g.year), u32::from(g.month))
 }
 
 // Whether a clock runs on a day.
@@ -60,7 +45,7 @@ fn runs_on(c: Clock, g: Given) -> bool
     let on = ((c.weekdays >> 7) % 2 == 0) & ((c.weekdays >> g.weekday) % 2 == 1);
     let day = (c.day == 0) | (c.day == g.day);
     let month = (c.month == 0) | (c.month == g.month);
-    let year = (c.year == 0) | (FIRST_YEAR + (c.year as u16) == g.year);
+    let year = (c.year == 0) | (FIRST_YEAR + u16::from(c.year) == g.year);
     on & day & month & year
 }
 
@@ -68,17 +53,15 @@ fn runs_on(c: Clock, g: Given) -> bool
 fn seconds_in(t: Time) -> u32
     ensures { (result ≡ seconds_in t) × (result < 1000000) }
 {
-    (t.hour as u32) * 3600 + (t.minute as u32) * 60 + (t.second as u32)
+    u32::from(t.hour) * 3600 + u32::from(t.minute) * 60 + u32::from(t.second)
 }
 
 // The second from midnight at which a clock runs.
 fn second_of(c: Clock) -> i32
     ensures { result ≡ second_of c }
 {
-    let time = c.time;
-    let offset = c.offset;
-    let at = seconds_in(time) as i32;
-    match offset {
+    let at = seconds_in(c.time) as i32;
+    match c.offset {
         Offset::Absent => at,
         Offset::Later(t) => at + (seconds_in(t) as i32),
         Offset::Earlier(t) => at - (seconds_in(t) as i32),
@@ -86,25 +69,21 @@ fn second_of(c: Clock) -> i32
 }
 
 // What a clock does on a day.
-fn on_day(c: Clock, g: Given) -> Run
-    ensures { said result ≡ on_day g (full c) }
+#[tactic(auto, using(crate::specs::Days::given_weekday), unfolding(crate::specs::Day::on_day))]
+fn on_day(c: Clock, g: Given) -> Result<Option<i32>, Refusal>
+    ensures { said_of day_said result ≡ on_day g (full c) }
 {
     if !is_given(g) {
-        return Run::Refused(22);
+        return Err(Refusal::OutOfRange);
     }
-    if !runs_on(c, g) {
-        return Run::Idle;
-    }
-    Run::At(second_of(c))
+    Ok(runs_on(c, g).then(|| second_of(c)))
 }
 
-// What the clock of a text does on a day: 21 where the text is not of its form, 22 where a field of it, the date or the weekday is out of range.
-pub fn runs(astronomical: bool, g: Given, s: &[u8]) -> Run
-    ensures { said result ≡ runs_at astronomical g s.now }
+// The second from midnight at which the clock of a text runs on a day, which an offset may have carried below 0 or past 86,399; none where it does not
+// run: 21 where the text is not of its form, 22 where a field of it, the date or the weekday is out of range.
+#[tactic(auto, unfolding(crate::specs::Day::on_day))]
+pub fn runs(astronomical: bool, g: Given, s: &[u8]) -> Result<Option<i32>, Refusal>
+    ensures { said_of day_said result ≡ runs_at astronomical g s.now }
 {
-    let r = clock_text::read(astronomical, s);
-    match r {
-        Reading::Accepted(c) => on_day(c, g),
-        Reading::Refused(k) => Run::Refused(k),
-    }
+    on_day(clock_text::read(astronomical, s)?, g)
 }

@@ -18,9 +18,9 @@ use Rattle.clock_rows.specs.Rows.{length_of, answered, answer_texts, row_texts, 
 
 -- THE END of a line
 module _ (l : List ℕ) where
-  pub no_byte : length l ≡ 0 → (0 ≡ length_of l) × (0 ≤ length l)
+  pub no_byte : length l ≡ 0 → (length l ≡ length_of l) × (length l ≤ length l)
   unfolding length_of
-  no_byte h = (go l h, omega arith)
+  no_byte h = (h ∙ go l h, omega arith)
     where
       go : (l : List ℕ) → length l ≡ 0 → 0 ≡ length_of l
       go [] h = refl

@@ -7,11 +7,12 @@
 ghost use Rattle.std.specs.Prelude.{◌≤◌, ◌≡◌, length};
 ghost use Rattle.lent.specs.Puts.{Puts};
 ghost use Rattle.lent.specs.All.{PutsAll};
-ghost use Rattle.clock_day.specs.Day.{said};
+ghost use Rattle.refusal.specs.Answer.{said_of};
+ghost use Rattle.clock_day.specs.Day.{day_said};
 ghost use Rattle.clock_rows.specs.Rows.{length_of, answered, header_text, second_at, runs_texts, clock_texts, answer_texts, Put, Turned};
 ghost use Rattle.clock_rows.specs.Times.{Near};
 
-use clock_day::Run;
+use refusal::Refusal;
 
 // The most bytes of a row.
 pub const ROW: usize = 128;
@@ -20,7 +21,7 @@ pub const ROW: usize = 128;
 const SHORT: usize = 20;
 
 // What a turn answers: where the next line begins, the place behind the row, how many bytes are to go to standard error.
-#[derive(Drop)]
+#[derive(Clone, Copy, Debug, PartialEq, Eq)]
 pub struct Step {
     pub next: usize,
     pub at: usize,
@@ -32,13 +33,11 @@ fn length_of(l: &[u8]) -> usize
     ensures { (result ≡ length_of l.now) × (result ≤ length l.now) }
 {
     let n = l.len();
-    if n == 0 {
-        return 0;
+    if n != 0 && l[n - 1] == b'\r' {
+        n - 1
+    } else {
+        n
     }
-    if l[n - 1] == b'\r' {
-        return n - 1;
-    }
-    n
 }
 
 // Puts the header.
@@ -53,7 +52,7 @@ fn second_at(midnight: u32, z: i32) -> u32
     requires { Near midnight z }
     ensures { result ≡ second_at midnight z }
 {
-    ((midnight as i64) + (z as i64)) as u32
+    (i64::from(midnight) + i64::from(z)) as u32
 }
 
 // Puts that a clock runs, at which second, and the time of it.
@@ -77,20 +76,26 @@ fn clock(out: &mut [u8], at: usize, line: &[u8]) -> usize
 }
 
 // Puts what a line's clock does, behind the line's number.
-fn answer(out: &mut [u8], at: usize, midnight: u32, run: Run, line: &[u8]) -> usize
-    requires { said run ≡ answered midnight line.now }
-    ensures { PutsAll (answer_texts midnight line.now (said run)) out.old at result out.new }
+fn answer(
+    out: &mut [u8],
+    at: usize,
+    midnight: u32,
+    run: Result<Option<i32>, Refusal>,
+    line: &[u8],
+) -> usize
+    requires { said_of day_said run ≡ answered midnight line.now }
+    ensures { PutsAll (answer_texts midnight line.now (said_of day_said run)) out.old at result out.new }
 {
     match run {
-        Run::At(z) => {
+        Ok(Some(z)) => {
             let a = runs(out, at, midnight, z);
             clock(out, a, line)
         }
-        Run::Idle => {
+        Ok(None) => {
             let a = lent::word(out, at, b"idle,,,");
             clock(out, a, line)
         }
-        Run::Refused(k) => {
+        Err(k) => {
             let a = clock_told::refusal(out, at, k);
             lent::word(out, a, b",,,\n")
         }
@@ -109,7 +114,7 @@ fn line(
 ) -> Step
     ensures { Put midnight l.now next n out.old at err.old result out.new err.new }
 {
-    if l.len() == 0 {
+    if l.is_empty() {
         return Step { next, at, told: 0 };
     }
     let g = clock_asked::given_of(midnight);
@@ -117,11 +122,10 @@ fn line(
     let a = text::decimal(out, at, n);
     let b = lent::word(out, a, b",");
     let c = answer(out, b, midnight, run, l);
-    let t = clock_told::told(err, n, run);
     Step {
         next,
         at: c,
-        told: t,
+        told: clock_told::told(err, n, run),
     }
 }
 

@@ -2,7 +2,7 @@
 -- symbols, day/month/year with 00 for no restriction, and an offset for astronomical clocks, which may be negative."
 use Rattle.std.specs.Prelude.{ℕ, ◌+◌, ◌-◌, ◌*◌, Bool, true, false, not, ◌&&◌, ◌||◌, List, [], ◌∷◌, ◌++◌, length, get_or, drop, eqb, leb}
 use Rattle.refusal.specs.Test.{pick}
-use Rattle.refusal.specs.Answer.{Answer, refused, full, demand}
+use Rattle.refusal.specs.Answer.{Answer, full, demand}
 use Rattle.words.specs.Words.{text}
 use Rattle.text.specs.Text.{hex_of}
 use Rattle.calendar.specs.Calendar.{two}
@@ -10,8 +10,6 @@ use Rattle.clock_text.specs.declared.Time.{Time}
 use Rattle.clock_text.specs.declared.Offset.{Offset}
 use Rattle.clock_text.specs.declared.Offset.TheVariants.{Absent, Later, Earlier}
 use Rattle.clock_text.specs.declared.Clock.{Clock}
-use Rattle.clock_text.specs.declared.Reading.{Reading}
-use Rattle.clock_text.specs.declared.Reading.TheVariants.{Accepted, Refused}
 
 -- FORM. A decimal digit, `0` to `9`, is 48 to 57. "two hexadecimal weekday symbols", "Weekday symbols are capitals": `A` to `F` are 65 to 70
 abbrev pub is_digit : ℕ → Bool
@@ -83,10 +81,6 @@ unfoldable pub in_range : Clock → Bool
 in_range c = (((is_time c.time && leb c.day 31) && leb c.month 12) && leb c.year 99) && is_offset c.offset
 
 -- READING. "Refusals: 21 text not of this form, 22 a field out of range, in that order"
-abbrev pub said : Reading → Answer Clock
-said (Accepted c) = full c
-said (Refused k) = refused k
-
 unfoldable pub read_clock : Bool → List ℕ → Answer Clock
 read_clock a s = demand (is_text a s) 21 (demand (in_range (clock_in s)) 22 (full (clock_in s)))
 

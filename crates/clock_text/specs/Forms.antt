@@ -1,9 +1,9 @@
 -- A run held to a form byte by byte.
-use Rattle.std.specs.Prelude.{ℕ, suc, ◌+◌, ◌-◌, ◌*◌, ◌<◌, ◌≤◌, ◌≡◌, refl, Bool, true, false, ◌&&◌, ◌||◌, length, get_or, ltb}
-use Rattle.std.proofs.Common.{sym, ap, ◌∙◌, drop-cons, drop-drop, get_or-drop, add-one, le-leb, arith}
+use Rattle.std.specs.Prelude.{ℕ, suc, ◌+◌, ◌*◌, ◌≤◌, ◌≡◌, refl, Bool, true, false, ◌&&◌, ◌||◌, length, get_or, ltb}
+use Rattle.std.proofs.Common.{ap, drop-drop, get_or-drop, arith}
 use mathlib.Core.List.{List, [], ◌∷◌}
-use Rattle.std.proofs.Math.ListN.{drop, drop_of_length-le}
-use Rattle.std.proofs.lemmas.Bool.{lt-leb}
+use Rattle.std.proofs.Math.ListN.{drop}
+use Rattle.std.specs.List.{list_all, zip}
 use Rattle.refusal.specs.Test.{both_right}
 use Rattle.refusal.specs.Answer.{refused, full}
 use Rattle.words.specs.Words.{text}
@@ -25,35 +25,13 @@ other_length f s h = go (has_form f s) refl
     go true e = absurd (h (form_length f s e))
     go false e = refl
 
--- what is left has what is left of the form exactly if all has all of it
-turn : (f s : List ℕ) (i : ℕ) → i < length f → i < length s
-    → has_form (drop i f) (drop i s) ≡ (stands (get_or f i 0) (get_or s i 0) && has_form (drop (i + 1) f) (drop (i + 1) s))
+-- and where it has, it is of the form exactly if each of its bytes may stand where the form has one
+pub form_all : (f s : List ℕ) → length f ≡ length s → list_all (λ p. stands p.0 p.1) (zip f s) ≡ has_form f s
 unfolding has_form
-turn f s i h k = rw (add-one, drop-cons f i 0 h, drop-cons s i 0 k)
-
-module _ (f s : List ℕ) (i : ℕ) where
-  pub turn_fits : length s ≡ length f → i < length s → stands (get_or f i 0) (get_or s i 0) ≡ true → has_form (drop i f) (drop i s) ≡ has_form f s
-      → has_form (drop (i + 1) f) (drop (i + 1) s) ≡ has_form f s
-  turn_fits l h e p = sym (turn f s i (omega arith) h ∙ rw e) ∙ p
-
-  pub turn_other : length s ≡ length f → i < length s → stands (get_or f i 0) (get_or s i 0) ≡ false → has_form (drop i f) (drop i s) ≡ has_form f s → false ≡ has_form f s
-  turn_other l h e p = sym (turn f s i (omega arith) h ∙ rw e) ∙ p
-
-  pub turns_done : length s ≡ length f → length s ≤ i → has_form (drop i f) (drop i s) ≡ has_form f s → true ≡ has_form f s
-  unfolding has_form
-  turns_done l h p =
-      let a : drop i s ≡ [] = drop_of_length-le s h in
-      let b : drop i f ≡ [] = drop_of_length-le f {i = i} (omega arith) in
-      rw (a, b) at p
-
--- SYMBOLS. What a byte says, by where it lies
-pub symbol_below : (c : ℕ) → c < 48 → 0 ≡ symbol_of c
-symbol_below c h =
-    let l : c < 65 = omega arith in
-    rw (lt-leb 48 c h, lt-leb 65 c l)
-
-pub symbol_digit : (c : ℕ) → 48 ≤ c → c ≤ 57 → c - 48 ≡ symbol_of c
-symbol_digit c h l = rw (le-leb 48 c h, le-leb c 57 l)
+form_all [] [] e = refl
+form_all [] (c ∷ s) e = absurd (omega arith)
+form_all (x ∷ f) [] e = absurd (omega arith)
+form_all (x ∷ f) (c ∷ s) e = ap (λ (t : Bool). stands x c && t) (form_all f s (omega arith))
 
 -- FIELDS, by their places in the text
 pub number_at : (s : List ℕ) (i : ℕ) → symbol_of (get_or s i 0) * 10 + symbol_of (get_or s (i + 1) 0) ≡ number_in (drop i s)

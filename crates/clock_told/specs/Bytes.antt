@@ -1,7 +1,10 @@
 -- Texts that have room, as one run of bytes; and how many bytes are told of a line.
 use Rattle.std.specs.Prelude.{ℕ, ◌+◌, ◌≤◌, ◌≡◌, Bool, true, false, List, [], ◌∷◌, ◌++◌, length, take, drop, eqb}
-use Rattle.std.proofs.Common.{sym, ◌∙◌, length-append, take_at, length-take-le, le-leb, arith}
+use Rattle.std.proofs.Common.{sym, ◌∙◌, length-append, take_at, length-take-le, le-leb, ne_eqb, arith}
 use Rattle.refusal.specs.Test.{pick}
+use Rattle.refusal.specs.Refusals.{number_of, number_one}
+use Rattle.refusal.specs.declared.Refusal.{Refusal}
+use Rattle.refusal.specs.declared.Refusal.TheVariants.{NotAClock}
 use Rattle.refusal.specs.Answer.{Answer, refused, full}
 use Rattle.lent.specs.Puts.{fits, over, over_none}
 use Rattle.lent.specs.All.{place_all, buffer_all, PutsAll}
@@ -41,6 +44,10 @@ puts_bytes {ts} {out} {o} {at} {r} h p =
     let a : r ≡ at + length (bytes_of ts) = p.says ∙ w.0 in
     let b : o ≡ over (bytes_of ts) out at = p.leaves ∙ w.1 in
     (a, rw (a, b) (over_front (bytes_of ts) out at (omega arith)))
+
+-- a refusal that is not 21
+pub other_number : (k : Refusal) → (k ≡ NotAClock → ⊥) → eqb (number_of k) 21 ≡ false
+other_number k h = ne_eqb (number_of k) 21 (λ e. h (number_one k NotAClock e))
 
 -- LENGTHS
 pub bytes_append : (ts us : List (List ℕ)) → length (bytes_of (ts ++ us)) ≡ length (bytes_of ts) + length (bytes_of us)

@@ -4,56 +4,55 @@
 
 ghost use Rattle.lent.specs.Puts.{Puts};
 ghost use Rattle.lent.specs.All.{PutsAll};
-ghost use Rattle.clock_day.specs.Day.{said};
+ghost use Rattle.clock_day.specs.Day.{day_said};
+ghost use Rattle.refusal.specs.Answer.{said_of};
+ghost use Rattle.refusal.specs.Refusals.{number_of};
 ghost use Rattle.clock_told.specs.Told.{refusal_text, reason_text, refused_texts};
 
-use clock_day::Run;
+use refusal::Refusal;
 
 // The most bytes of what is told of a line.
 pub const TOLD: usize = 256;
 
 // Puts a refusal's number and its name.
-pub fn refusal(out: &mut [u8], at: usize, k: u8) -> usize
-    ensures { Puts (refusal_text k) out.old at result out.new }
+pub fn refusal(out: &mut [u8], at: usize, k: Refusal) -> usize
+    ensures { Puts (refusal_text (number_of k)) out.old at result out.new }
 {
-    if k == 21 {
-        return lent::word(out, at, b"21 NOT_A_CLOCK");
+    match k {
+        Refusal::NotAClock => lent::word(out, at, b"21 NOT_A_CLOCK"),
+        _ => lent::word(out, at, b"22 OUT_OF_RANGE"),
     }
-    lent::word(out, at, b"22 OUT_OF_RANGE")
 }
 
 // Puts what it says.
-fn reason(out: &mut [u8], at: usize, k: u8) -> usize
-    ensures { Puts (reason_text k) out.old at result out.new }
+fn reason(out: &mut [u8], at: usize, k: Refusal) -> usize
+    ensures { Puts (reason_text (number_of k)) out.old at result out.new }
 {
-    if k == 21 {
-        return lent::word(
+    match k {
+        Refusal::NotAClock => lent::word(
             out,
             at,
             b": a clock is HH:MM:SS WD DD/MM/YY, WD in capitals, and where it is astronomical behind a blank HH:MM:SS or -HH:MM:SS",
-        );
+        ),
+        _ => lent::word(
+            out,
+            at,
+            b": hours reach 23, minutes and seconds 59, days 31 and months 12, and no offset is -00:00:00",
+        ),
     }
-    lent::word(
-        out,
-        at,
-        b": hours reach 23, minutes and seconds 59, days 31 and months 12, and no offset is -00:00:00",
-    )
 }
 
 // Puts what is told of a line that is refused, at the start of a buffer.
-pub fn told(err: &mut [u8], n: u64, run: Run) -> usize
-    ensures { PutsAll (refused_texts n (said run)) err.old 0 result err.new }
+pub fn told(err: &mut [u8], n: u64, run: Result<Option<i32>, Refusal>) -> usize
+    ensures { PutsAll (refused_texts n (said_of day_said run)) err.old 0 result err.new }
 {
-    match run {
-        Run::Refused(k) => {
-            let a = lent::word(err, 0, b"clock: line ");
-            let b = text::decimal(err, a, n);
-            let c = lent::word(err, b, b": ");
-            let d = refusal(err, c, k);
-            let e = reason(err, d, k);
-            lent::word(err, e, b"\n")
-        }
-        Run::Idle => 0,
-        Run::At(_) => 0,
-    }
+    let Err(k) = run else {
+        return 0;
+    };
+    let a = lent::word(err, 0, b"clock: line ");
+    let b = text::decimal(err, a, n);
+    let c = lent::word(err, b, b": ");
+    let d = refusal(err, c, k);
+    let e = reason(err, d, k);
+    lent::word(err, e, b"\n")
 }

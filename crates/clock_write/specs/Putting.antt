@@ -1,5 +1,5 @@
 -- A clock's text put part by part, and what the writer then answers.
-use Rattle.std.specs.Prelude.{ℕ, ◌+◌, ◌≤◌, ◌<◌, ◌≡◌, refl, Bool, true, List, [], ◌∷◌, ◌++◌}
+use Rattle.std.specs.Prelude.{ℕ, Ok, Err, ◌+◌, ◌≤◌, ◌<◌, ◌≡◌, refl, Bool, true, List, [], ◌∷◌, ◌++◌}
 use Rattle.std.proofs.Common.{sym, ◌∙◌, arith}
 use Rattle.std.proofs.Math.Bool.{false}
 use Rattle.std.proofs.Math.ListN.{length, length-append}
@@ -8,7 +8,7 @@ use borrow.Author.Tests.{lt-leb}
 use Rattle.lent.specs.Puts.{Puts, fits, over_none}
 use Rattle.lent.specs.Over.{puts_room, puts_length, puts_then}
 use Rattle.frame.specs.Written.{Written, refuses, passes, put_written}
-use Rattle.frame.specs.declared.Wrote.TheVariants.{Count, Refused}
+use Rattle.refusal.specs.declared.Refusal.TheVariants.{NoRoom, OutOfRange}
 use Rattle.clock_text.specs.declared.Time.{Time}
 use Rattle.clock_text.specs.declared.Clock.{Clock}
 use Rattle.clock_text.specs.declared.Offset.{Offset}
@@ -53,11 +53,11 @@ offset_most (Later t) = omega arith
 offset_most (Earlier t) = omega arith
 
 module _ (c : Clock) (out : List ℕ) where
-  pub out_of_range_lem : in_range c ≡ false → Written (write_clock c) out (Refused 22) out
+  pub out_of_range_lem : in_range c ≡ false → Written (write_clock c) out (Err OutOfRange) out
   unfolding write_clock
   out_of_range_lem e = refuses out (rw e)
 
-  pub no_room : in_range c ≡ true → length out < 20 + length (offset_text c.offset) → Written (write_clock c) out (Refused 8) out
+  pub no_room : in_range c ≡ true → length out < 20 + length (offset_text c.offset) → Written (write_clock c) out (Err NoRoom) out
   unfolding write_clock
   no_room e h =
       let t : leb (length (text_of c)) (length out) ≡ false = lt-leb (length (text_of c)) (length out) (omega (arith, text_length c)) in
@@ -76,7 +76,7 @@ module _ (c : Clock) (out : List ℕ) where
     pub has_room : k + length (offset_text c.offset) ≤ length r
     has_room = omega (arith, placed.0, placed.1)
 
-    pub written : {s : List ℕ} {e : ℕ} → in_range c ≡ true → Puts (offset_text c.offset) r k e s → Written (write_clock c) out (Count e) s
+    pub written : {s : List ℕ} {e : ℕ} → in_range c ≡ true → Puts (offset_text c.offset) r k e s → Written (write_clock c) out (Ok e) s
     unfolding write_clock text_of
     written {s} {e} f o =
         let x = puts_room {t = time_text c.time} {out = out} {at = 0} (omega arith) a in

@@ -10,13 +10,13 @@ ghost use Rattle.clock_text.specs.Clock.{three, time_text, days_text, date_text,
 ghost use Rattle.clock_write.specs.Writing.{write_clock};
 
 use clock_text::{Clock, Offset, Time};
-use frame::Wrote;
+use refusal::Refusal;
 
-// The last decimal digit of a number.
+// The last decimal digit of a number. (Crate calendar has it for its numbers of 32 bits: one line in each is plainer than a generic function.)
 fn figure(n: u8) -> u8
     ensures { result ≡ figure n }
 {
-    48 + n % 10
+    b'0' + n % 10
 }
 
 // Puts three numbers, two digits each, with a byte between two of them.
@@ -93,21 +93,17 @@ fn put_offset(out: &mut [u8], at: usize, o: Offset) -> usize
 }
 
 // Writes a clock as its text: 22 where a field is out of range, 8 where the buffer is shorter than the text.
-pub fn write(c: Clock, out: &mut [u8]) -> Wrote
+pub fn write(c: Clock, out: &mut [u8]) -> Result<usize, Refusal>
     ensures { Written (write_clock c) out.old result out.new }
 {
     if !clock_text::in_range(c) {
-        return Wrote::Refused(22);
+        return Err(Refusal::OutOfRange);
     }
-    let time = c.time;
-    let offset = c.offset;
-    let n = offset_length(offset);
-    if out.len() < 20 + n {
-        return Wrote::Refused(8);
+    if out.len() < 20 + offset_length(c.offset) {
+        return Err(Refusal::NoRoom);
     }
-    let days = put_time(out, 0, time);
+    let days = put_time(out, 0, c.time);
     let date = put_days(out, days, c.weekdays);
     let behind = put_date(out, date, c);
-    let e = put_offset(out, behind, offset);
-    Wrote::Count(e)
+    Ok(put_offset(out, behind, c.offset))
 }

@@ -1,9 +1,8 @@
 -- "Write clocks back too, and get the same text": both round trips.
-use Rattle.std.specs.Prelude.{ℕ, ◌<◌, ◌≤◌, ◌≡◌, refl, Bool, List, ◌++◌, length, drop}
+use Rattle.std.specs.Prelude.{ℕ, Result, Ok, ◌<◌, ◌≤◌, ◌≡◌, refl, Bool, List, ◌++◌, length, drop}
 use Rattle.std.proofs.Common.{sym, ap}
 use Rattle.refusal.specs.Answer.{full, demand_elim, full_one}
-use Rattle.frame.specs.declared.Wrote.{Wrote}
-use Rattle.frame.specs.declared.Wrote.TheVariants.{Count}
+use Rattle.refusal.specs.declared.Refusal.{Refusal}
 use Rattle.frame.specs.Written.{Written, written_whole}
 use Rattle.clock_text.specs.declared.Clock.{Clock}
 use Rattle.clock_text.specs.Clock.{in_range, read_clock, text_of}
@@ -19,8 +18,8 @@ read_write a s c e = go ((read_exactly a s c).0 e)
     go (h, f, k) = rw h.ranges (ap full (sym f))
 
 -- into a buffer that is long enough, and what lies behind the text stays
-pub written_back : (a : Bool) (s : List ℕ) (c : Clock) {out p : List ℕ} {r : Wrote} → read_clock a s ≡ full c → Written (write_clock c) out r p → length s ≤ length out
-    → (r ≡ Count (length s)) × (p ≡ s ++ drop (length s) out)
+pub written_back : (a : Bool) (s : List ℕ) (c : Clock) {out p : List ℕ} {r : Result ℕ Refusal} → read_clock a s ≡ full c → Written (write_clock c) out r p → length s ≤ length out
+    → (r ≡ Ok (length s)) × (p ≡ s ++ drop (length s) out)
 written_back a s c e w h = written_whole (rw (read_write a s c e) at w) h
 
 -- a text that was written reads as the clock, whose weekdays are a byte

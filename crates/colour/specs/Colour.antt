@@ -1,14 +1,12 @@
 -- Document 02, W-202, and source 002, "Colour Data": "Depending on the Colour Type specify the values in bytes for each channel of the colour
 -- type." One definition over the channels' widths, so over every colour type; crate command has the types and the widths.
 use Rattle.std.specs.Prelude.{ℕ, ◌-◌, ◌^◌, Bool, true, false, ◌&&◌, List, [], ◌∷◌, ◌++◌, length, take, drop, replicate, ltb, eqb}
-use Rattle.refusal.specs.Answer.{Answer, refused, full, demand}
+use Rattle.refusal.specs.Answer.{Answer, full, demand}
 use Rattle.order.specs.Order.{high_first, number_in}
 use Rattle.order.specs.Big.{big_bytes}
 use Rattle.command.specs.Colours.{xy_type, tc_type, rgbwaf_type, widths_of, data_bytes, is_type}
 use Rattle.colour.specs.declared.Colour.{Colour}
 use Rattle.colour.specs.declared.Colour.TheVariants.{Xy, Tc, Rgbwaf}
-use Rattle.colour.specs.declared.Reading.{Reading}
-use Rattle.colour.specs.declared.Reading.TheVariants.{Accepted, Refused}
 use Rattle.colour.specs.declared.Data.{Data}
 
 -- a colour: the number of its type, and the values of its channels in the order in which they are sent
@@ -58,10 +56,6 @@ abbrev pub said_colour : Colour → Hue
 said_colour (Xy x y) = hue xy_type (x ∷ y ∷ [])
 said_colour (Tc t) = hue tc_type (t ∷ [])
 said_colour (Rgbwaf red green blue white amber free) = hue rgbwaf_type (red ∷ green ∷ blue ∷ white ∷ amber ∷ free ∷ [])
-
-abbrev pub said : Reading → Answer Hue
-said (Refused k) = refused k
-said (Accepted c) = full (said_colour c)
 
 -- a colour laid out in six bytes, zeros behind its data
 abbrev pub room : ℕ

@@ -1,5 +1,5 @@
 -- Read and laid out, there and back: once over the widths of channels, and so over the colour types.
-use Rattle.std.specs.Prelude.{ℕ, ◌+◌, ◌-◌, ◌^◌, ◌≤◌, ◌<◌, ◌≡◌, refl, true, List, [], ◌∷◌, ◌++◌, length, take, drop, replicate, ltb}
+use Rattle.std.specs.Prelude.{ℕ, ◌-◌, ◌^◌, ◌≤◌, ◌<◌, ◌≡◌, refl, true, List, [], ◌∷◌, ◌++◌, length, take, drop, replicate, ltb}
 use Rattle.std.proofs.Common.{ap, ap₂, ◌∙◌, length-append, length-take, length-drop, take-append-drop, ltb-true, lt-ltb, arith}
 use Rattle.std.proofs.Math.Seq.{take-append_seam, drop-append_seam}
 use Rattle.refusal.specs.Test.{clash, both_left, both_right}

@@ -3,5 +3,3 @@ pub mod Colour
 -- what is claimed of it: laid out and read there and back, and one answer
 pub mod Laws
 pub mod One
--- what only serves proofs
-pub mod Types

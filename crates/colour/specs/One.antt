@@ -1,14 +1,14 @@
 -- What is said of a colour leaves no choice: from it the case is told.
-use Rattle.std.specs.Prelude.{◌≡◌, refl, get_or, eqb}
+use Rattle.std.specs.Prelude.{◌≡◌, refl, get_or, eqb, Result}
 use Rattle.std.proofs.Common.{sym, ap, ◌∙◌}
 use Rattle.refusal.specs.Test.{pick}
-use Rattle.refusal.specs.Answer.{Answer, refused, full}
+use Rattle.refusal.specs.Answer.{said_of}
+use Rattle.refusal.specs.SaidOf.{said_of_one}
+use Rattle.refusal.specs.declared.Refusal.{Refusal}
 use Rattle.command.specs.Colours.{xy_type, tc_type}
 use Rattle.colour.specs.declared.Colour.{Colour}
 use Rattle.colour.specs.declared.Colour.TheVariants.{Xy, Tc, Rgbwaf}
-use Rattle.colour.specs.declared.Reading.{Reading}
-use Rattle.colour.specs.declared.Reading.TheVariants.{Accepted, Refused}
-use Rattle.colour.specs.Colour.{Hue, hue, said_colour, said}
+use Rattle.colour.specs.Colour.{Hue, hue, said_colour}
 
 -- the case that says a colour
 abbrev pub colour_by : Hue → Colour
@@ -25,13 +25,5 @@ colour_back (Rgbwaf r g b w a f) = refl
 pub colour_one : (x y : Colour) → said_colour x ≡ said_colour y → x ≡ y
 colour_one x y e = sym (colour_back x) ∙ ap colour_by e ∙ colour_back y
 
-abbrev reading_by : Answer Hue → Reading
-reading_by (refused k) = Refused k
-reading_by (full h) = Accepted (colour_by h)
-
-reading_back : (x : Reading) → reading_by (said x) ≡ x
-reading_back (Refused k) = refl
-reading_back (Accepted c) = ap Accepted (colour_back c)
-
-pub said_one : (x y : Reading) → said x ≡ said y → x ≡ y
-said_one x y e = sym (reading_back x) ∙ ap reading_by e ∙ reading_back y
+pub said_one : (x y : Result Colour Refusal) → said_of said_colour x ≡ said_of said_colour y → x ≡ y
+said_one = said_of_one said_colour colour_one

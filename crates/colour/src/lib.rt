@@ -4,9 +4,12 @@
 #![tactic(auto)]
 
 ghost use Rattle.std.specs.Prelude.{◌≡◌};
-ghost use Rattle.colour.specs.Colour.{said_colour, said, read_colour, data_of};
+ghost use Rattle.refusal.specs.Answer.{said_of};
+ghost use Rattle.colour.specs.Colour.{said_colour, read_colour, data_of};
 
-#[derive(Clone, Copy)]
+use refusal::Refusal;
+
+#[derive(Clone, Copy, Debug, PartialEq, Eq)]
 pub enum Colour {
     // 10
     Xy {
@@ -26,46 +29,41 @@ pub enum Colour {
     },
 }
 
-// What reading colour data answers.
-#[derive(Drop)]
-pub enum Reading {
-    Accepted(Colour),
-    Refused(u8),
-}
-
 // What some bytes say as the colour data of a type: 4 where the type is not listed, 5 where they are not as many as it has.
-pub fn read(kind: u8, data: &[u8]) -> Reading
-    ensures { said result ≡ read_colour kind «data».now }
+#[tactic(auto, unfolding(crate::specs::Colour::read_colour, command::specs::Colours::data_bytes, command::specs::Colours::widths_of, order::specs::Order::number_by))]
+pub fn read(kind: u8, data: &[u8]) -> Result<Colour, Refusal>
+    ensures { said_of said_colour result ≡ read_colour kind «data».now }
 {
-    if kind == command::COLOUR_XY {
-        if data.len() != command::XY_BYTES {
-            return Reading::Refused(5);
+    match kind {
+        command::COLOUR_XY => {
+            let [a, b, c, d] = *data else {
+                return Err(Refusal::BadLength);
+            };
+            let x = order::high_first(a, b);
+            let y = order::high_first(c, d);
+            Ok(Colour::Xy { x, y })
         }
-        let x = order::high_first(data[0], data[1]);
-        let y = order::high_first(data[2], data[3]);
-        return Reading::Accepted(Colour::Xy { x, y });
-    }
-    if kind == command::COLOUR_TC {
-        if data.len() != command::TC_BYTES {
-            return Reading::Refused(5);
+        command::COLOUR_TC => {
+            let [a, b] = *data else {
+                return Err(Refusal::BadLength);
+            };
+            Ok(Colour::Tc(order::high_first(a, b)))
         }
-        let t = order::high_first(data[0], data[1]);
-        return Reading::Accepted(Colour::Tc(t));
-    }
-    if kind == command::COLOUR_RGBWAF {
-        if data.len() != command::RGBWAF_BYTES {
-            return Reading::Refused(5);
+        command::COLOUR_RGBWAF => {
+            let [red, green, blue, white, amber, free] = *data else {
+                return Err(Refusal::BadLength);
+            };
+            Ok(Colour::Rgbwaf {
+                red,
+                green,
+                blue,
+                white,
+                amber,
+                free,
+            })
         }
-        return Reading::Accepted(Colour::Rgbwaf {
-            red: data[0],
-            green: data[1],
-            blue: data[2],
-            white: data[3],
-            amber: data[4],
-            free: data[5],
-        });
+        _ => Err(Refusal::BadLengthByte),
     }
-    Reading::Refused(4)
 }
 
 // A colour laid out: its type, and the bytes of its channels, so many; behind them zeros.
@@ -76,31 +74,26 @@ pub struct Data {
     pub bytes: [u8; command::RGBWAF_BYTES],
 }
 
+#[tactic(auto, unfolding(command::specs::Colours::widths_of))]
 pub fn data_of(colour: Colour) -> Data
     ensures { result ≡ data_of (said_colour colour) }
 {
     match colour {
         Colour::Xy { x, y } => {
-            let bytes = [
-                (x / 256 % 256) as u8,
-                (x % 256) as u8,
-                (y / 256 % 256) as u8,
-                (y % 256) as u8,
-                0,
-                0,
-            ];
+            let [a, b] = x.to_be_bytes();
+            let [c, d] = y.to_be_bytes();
             Data {
                 kind: command::COLOUR_XY,
                 count: command::XY_BYTES,
-                bytes,
+                bytes: [a, b, c, d, 0, 0],
             }
         }
         Colour::Tc(t) => {
-            let bytes = [(t / 256 % 256) as u8, (t % 256) as u8, 0, 0, 0, 0];
+            let [a, b] = t.to_be_bytes();
             Data {
                 kind: command::COLOUR_TC,
                 count: command::TC_BYTES,
-                bytes,
+                bytes: [a, b, 0, 0, 0, 0],
             }
         }
         Colour::Rgbwaf {
@@ -110,13 +103,10 @@ pub fn data_of(colour: Colour) -> Data
             white,
             amber,
             free,
-        } => {
-            let bytes = [red, green, blue, white, amber, free];
-            Data {
-                kind: command::COLOUR_RGBWAF,
-                count: command::RGBWAF_BYTES,
-                bytes,
-            }
-        }
+        } => Data {
+            kind: command::COLOUR_RGBWAF,
+            count: command::RGBWAF_BYTES,
+            bytes: [red, green, blue, white, amber, free],
+        },
     }
 }

@@ -9,7 +9,7 @@ ghost use Rattle.command.specs.Colours.{data_bytes};
 
 // The rule of a basic request's four arguments, named for what they say; crate ranges has the ranges. The commands that have it stand
 // beside it.
-#[derive(Clone, Copy)]
+#[derive(Clone, Copy, Debug, PartialEq, Eq)]
 pub enum Rule {
     // 01, 1A
     Group,
@@ -82,7 +82,7 @@ pub const REQUEST_LONGEST: usize = COLOUR_DATA_AT + RGBWAF_BYTES + 1;
 
 // The shape of a command's frame: 8 bytes with four arguments, the 11 bytes of request 40, the bytes of a colour request, which its colour
 // type counts, or none.
-#[derive(Drop)]
+#[derive(Clone, Copy, Debug, PartialEq, Eq)]
 pub enum Shape {
     Unknown,
     Basic(Rule),
@@ -91,7 +91,7 @@ pub enum Shape {
 }
 
 // What is decided of a command number: the shape of its frame with the rule of its arguments, and whether it is "marked as retired".
-#[derive(Drop)]
+#[derive(Clone, Copy, Debug, PartialEq, Eq)]
 pub struct Command(pub Shape, pub bool);
 
 const RETIRED: bool = true;
@@ -100,6 +100,7 @@ const UNMARKED: bool = false;
 
 // The one decision of shape, rule and mark: all that goes by one of these asks it, or shape_of, which hands its shape on. Whether a command is known or
 // retired, and no more, is told below.
+#[tactic(auto, unfolding(crate::specs::Command::numbers_in, crate::specs::Command::is_retired))]
 pub fn decide(command: u8) -> Command
     ensures { Decided command result }
 {
@@ -130,30 +131,31 @@ pub fn decide(command: u8) -> Command
 pub fn shape_of(command: u8) -> Shape
     ensures { numbers_of result ≡ numbers_in command }
 {
-    let c = decide(command);
-    c.0
+    decide(command).0
 }
 
 // Whether a command number is one of the 33. A match of its own: a book asks it of every entry that it comes to, and a yes or no takes a few
 // instructions where it stands, a shape some twenty and a call. It is known exactly if `decide` has a shape for it, by the two contracts.
+#[tactic(auto, unfolding(crate::specs::Command::shape_of))]
 pub fn known(command: u8) -> bool
     ensures { result ≡ is_known command }
 {
-    match command {
-        0x01 | 0x08..=0x0C | 0x0E | 0x1A..=0x1D | 0x20 | 0x31..=0x34 | 0x40..=0x41 | 0xA0..=0xAE =>
-            true,
-        _ => false,
-    }
+    matches!(
+        command,
+        0x01 | 0x08..=0x0C | 0x0E | 0x1A..=0x1D | 0x20 | 0x31..=0x34 | 0x40..=0x41 | 0xA0..=0xAE
+    )
 }
 
 // Whether a command is retired: "New requests with 0A are no longer written", nor asked; what was written reads as before.
+#[tactic(auto, unfolding(crate::specs::Command::is_retired))]
 pub fn retired(command: u8) -> bool
     ensures { result ≡ is_retired command }
 {
     command == RETIRED_COMMAND
 }
 
-// How many bytes of colour data a colour type has; 0 where the type is not listed.
+// How many bytes of colour data a colour type has; 0 where the type is not listed. (0 and no Option: its contract, `data_bytes`, says 0.)
+#[tactic(auto, unfolding(crate::specs::Colours::data_bytes, crate::specs::Colours::widths_of))]
 pub fn colour_bytes(kind: u8) -> usize
     ensures { result ≡ data_bytes kind }
 {

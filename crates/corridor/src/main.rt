@@ -5,17 +5,17 @@
 
 ghost use Rattle.std.specs.Prelude.{◌≤◌, length};
 
-use asked::{Address, Boundary, Number};
-use by_parts::{How, SoFar};
+use asked::NoBoundary;
+use by_parts::{SoFar, Turned};
 use event::Mac;
 use options::Asked;
+use refusal::Refusal;
 use season::{Boundaries, Corridor, Season};
 use std::env::FillError;
 use std::fs::File;
 use std::io;
 use std::io::{Read, Write};
 use std::rt::Env;
-use summary::Went;
 
 // How many arguments there are behind the program's own name: the file, MAC, target, instance, and three boundaries.
 const WORDS: usize = 7;
@@ -39,34 +39,21 @@ const SAID: usize = 128;
 const NO_TEXT: i32 = 84;
 
 // The greatest target and instance.
-const TARGET: u32 = 4294967295;
+const TARGET: u32 = u32::MAX;
 
 const INSTANCE: u32 = 255;
 
 // The form of the sheet.
-#[derive(Drop)]
+#[derive(Clone, Copy)]
 enum Form {
     Csv,
     Text,
     Svg,
 }
 
-// Where a run stands: the report so far, how many bytes were read, and whether it goes on; and of a read that failed the error.
-#[derive(Drop)]
-struct Run {
-    how: How,
-    so_far: SoFar,
-    bytes: u64,
-    fault: Option<io::Error>,
-}
-
 // A line on standard error that ends in a word of the command line.
 fn complain(rt: &HostRuntime, what: &[u8], word: &[u8]) {
-    let err = rt.stderr();
-    let _ = err.write_all(b"corridor: ");
-    let _ = err.write_all(what);
-    let _ = err.write_all(word);
-    let _ = err.write_all(b"\n");
+    complain_of(rt, b"", what, word);
 }
 
 // One that ends in the name of an argument and what is wrong with it, and in the word.
@@ -93,10 +80,7 @@ fn said(text: &[u8]) -> usize
 {
     let end = words::until(text, 0, 0);
     let n = words::until(text, 0, b'(');
-    if (n < end) & (0 < n) {
-        return n - 1;
-    }
-    end
+    if n < end && 0 < n { n - 1 } else { end }
 }
 
 // One that tells of a file what the system says of an error.
@@ -135,82 +119,75 @@ Example: corridor --text year.capture 7C:BA:CC:2F:40:2E 68 3 2026-03-01 2026-06-
     );
 }
 
-// An argument as a number, or a line that it is none.
-fn number(rt: &HostRuntime, i: usize, most: u32, what: &[u8]) -> Number {
-    let mut word = [0u8; WORD];
-    let Ok(n) = rt.arg(i, &mut word) else {
+// The bytes of an argument, or a line that it is too long.
+fn argument<'a>(rt: &HostRuntime, i: usize, word: &'a mut [u8]) -> Option<&'a [u8]> {
+    let Ok(n) = rt.arg(i, word) else {
         complain(rt, b"an argument is too long", b"");
-        return Number::Not;
+        return None;
     };
-    let r = asked::number_of(&word[..n], most);
-    match r {
-        Number::Of(k) => Number::Of(k),
-        Number::Not => {
-            complain(rt, what, &word[..n]);
-            Number::Not
-        }
+    Some(&word[..n])
+}
+
+// An argument as a number, or a line that it is none.
+fn number(rt: &HostRuntime, i: usize, most: u32, what: &[u8]) -> Option<u32> {
+    let mut word = [0u8; WORD];
+    let s = argument(rt, i, &mut word)?;
+    let n = asked::number_of(s, most);
+    if n.is_none() {
+        complain(rt, what, s);
     }
+    n
 }
 
 // An argument as a MAC address, or a line that it is none.
-fn mac(rt: &HostRuntime, i: usize) -> Address {
+fn mac(rt: &HostRuntime, i: usize) -> Option<Mac> {
     let mut word = [0u8; WORD];
-    let Ok(n) = rt.arg(i, &mut word) else {
-        complain(rt, b"an argument is too long", b"");
-        return Address::Not;
-    };
-    let r = asked::mac_of(&word[..n]);
-    match r {
-        Address::Of(m) => Address::Of(m),
-        Address::Not => {
-            complain(
-                rt,
-                b"MAC is not six bytes in hexadecimal, as in 7C:BA:CC:2F:40:2E: ",
-                &word[..n],
-            );
-            Address::Not
-        }
+    let s = argument(rt, i, &mut word)?;
+    let m = asked::mac_of(s);
+    if m.is_none() {
+        complain(
+            rt,
+            b"MAC is not six bytes in hexadecimal, as in 7C:BA:CC:2F:40:2E: ",
+            s,
+        );
     }
+    m
 }
 
 // An argument as a boundary, or a line that it is none.
-fn boundary(rt: &HostRuntime, i: usize, name: &[u8]) -> Number {
+fn boundary(rt: &HostRuntime, i: usize, name: &[u8]) -> Option<u32> {
     let mut word = [0u8; WORD];
-    let Ok(n) = rt.arg(i, &mut word) else {
-        complain(rt, b"an argument is too long", b"");
-        return Number::Not;
-    };
-    let r = asked::boundary_of(&word[..n]);
-    match r {
-        Boundary::At(s) => return Number::Of(s),
-        Boundary::Neither => complain_of(
+    let s = argument(rt, i, &mut word)?;
+    match asked::boundary_of(s) {
+        Ok(seconds) => return Some(seconds),
+        Err(NoBoundary::Neither) => complain_of(
             rt,
             name,
             b" is neither seconds, 0 to 4294967295, nor a date, as in 2026-03-01: ",
-            &word[..n],
+            s,
         ),
-        Boundary::NoSuchDate => complain_of(
+        Err(NoBoundary::NoSuchDate) => complain_of(
             rt,
             name,
             b" is a date that does not exist: ",
-            &word[..n],
+            s,
         ),
-        Boundary::Outside => complain_of(
+        Err(NoBoundary::Outside) => complain_of(
             rt,
             name,
             b" is a date before 1970-01-01 or behind 2106-02-07: ",
-            &word[..n],
+            s,
         ),
     }
-    Number::Not
+    None
 }
 
 // So many bytes of a text, and whether they were written.
 fn write(to: &impl Print, out: &[u8], n: usize) -> bool {
-    if out.len() < n {
-        return false;
+    match out.get(..n) {
+        Some(text) => to.write_all(text).is_ok(),
+        None => false,
     }
-    to.write_all(&out[..n]).is_ok()
 }
 
 // Puts the sheet in its form.
@@ -245,24 +222,17 @@ fn print(
 }
 
 // Tells why there is none.
-fn tell(rt: &HostRuntime, out: &mut [u8], x: SoFar, k: u8) {
-    let n = sheet_told::refused(out, 0, x, k);
+fn tell(rt: &HostRuntime, out: &mut [u8], x: SoFar, refusal: Refusal) {
+    let n = sheet_told::refused(out, 0, x, refusal);
     write(&rt.stderr(), out, n);
 }
 
 // The one or the other.
 fn finish(rt: &HostRuntime, form: Form, x: SoFar) {
     let mut out = [0u8; ROOM];
-    let r = by_parts::end(x);
-    let went = r.went;
-    match went {
-        Went::Refused(k) => tell(rt, &mut out, x, k),
-        Went::Well => {
-            let who = x.who;
-            let bounds = x.bounds;
-            let seasons = r.seasons;
-            print(rt, form, &mut out, who, bounds, seasons);
-        }
+    match by_parts::end(x) {
+        Ok(seasons) => print(rt, form, &mut out, x.who, x.bounds, seasons),
+        Err(refusal) => tell(rt, &mut out, x, refusal),
     }
 }
 
@@ -281,37 +251,33 @@ fn progress(rt: &HostRuntime, before: u64, bytes: u64, records: u64) {
     tell_read(rt, &mut line, bytes, records);
 }
 
-// One read, and what it makes of the report.
-fn read(rt: &HostRuntime, input: &mut impl Read, run: Run, buf: &mut [u8]) -> Run {
-    let x = run.so_far;
-    let (got, more, fault) = match input.read(buf) {
-        Ok(n) => (n as isize, n as u64, None),
-        Err(e) => (-1, 0, Some(e)),
-    };
-    let t = by_parts::turn(x, got, buf);
-    let bytes = season::plus(run.bytes, more);
-    let y = t.so_far;
-    progress(rt, run.bytes, bytes, y.passed.records);
-    Run {
-        how: t.how,
-        so_far: y,
-        bytes,
-        fault,
-    }
-}
-
-// Read by read. (The loop has to count: nothing says that input ends.)
-fn follow(rt: &HostRuntime, input: &mut impl Read, buf: &mut [u8], from: Run) -> Run {
-    let mut run = from;
+// Reads a capture, part by part, to its end or to where it is refused: the report then, or the error of a read that failed. (The loop has to
+// count: nothing says that input ends. Where it never does there is no report.)
+fn follow(
+    rt: &HostRuntime,
+    input: &mut impl Read,
+    buf: &mut [u8],
+    start: SoFar,
+) -> io::Result<Option<SoFar>> {
+    let mut x = start;
+    let mut bytes: u64 = 0;
     for _ in 0..u64::MAX {
-        run = read(rt, input, run, buf);
-        match run.how {
-            How::Goes => (),
-            How::Ended => return run,
-            How::Failed => return run,
+        let n = input.read(buf)?;
+        let before = bytes;
+        bytes = bytes.saturating_add(n as u64);
+        match by_parts::turn(x, n as isize, buf) {
+            Some(Turned::Goes(y)) => {
+                progress(rt, before, bytes, y.passed.records);
+                x = y;
+            }
+            Some(Turned::Ended(y)) => {
+                progress(rt, before, bytes, y.passed.records);
+                return Ok(Some(y));
+            }
+            None => return Ok(None),
         }
     }
-    run
+    Ok(None)
 }
 
 // The sheet of an open file, whose name is at hand for what fails.
@@ -324,25 +290,10 @@ fn report(
     bounds: Boundaries,
 ) {
     let mut buf = [0u8; PART];
-    let start = Run {
-        how: How::Goes,
-        so_far: by_parts::begin(who, bounds),
-        bytes: 0,
-        fault: None,
-    };
-    let run = follow(rt, input, &mut buf, start);
-    let how = run.how;
-    match how {
-        How::Failed => {
-            if let Some(e) = run.fault {
-                fail(rt, b"corridor: reading ", path, &e);
-            }
-        }
-        How::Ended => {
-            let x = run.so_far;
-            finish(rt, form, x);
-        }
-        How::Goes => (),
+    match follow(rt, input, &mut buf, by_parts::begin(who, bounds)) {
+        Ok(Some(x)) => finish(rt, form, x),
+        Ok(None) => (),
+        Err(e) => fail(rt, b"corridor: reading ", path, &e),
     }
 }
 
@@ -369,71 +320,39 @@ fn open(rt: &HostRuntime, form: Form, i: usize, who: Corridor, bounds: Boundarie
     }
 }
 
-// The boundaries, and then the file.
-fn bounded(rt: &HostRuntime, form: Form, i: usize, who: Corridor)
+// The corridor, from the place of the file's argument on, or a line on what is no part of one.
+fn corridor(rt: &HostRuntime, i: usize) -> Option<Corridor>
     requires { i ≤ 2 }
 {
-    let a = boundary(rt, i + 4, b"FIRST");
-    let Number::Of(first) = a else {
-        return;
-    };
-    let b = boundary(rt, i + 5, b"SECOND");
-    let Number::Of(second) = b else {
-        return;
-    };
-    let c = boundary(rt, i + 6, b"THIRD");
-    let Number::Of(third) = c else {
-        return;
-    };
-    open(
-        rt,
-        form,
-        i,
-        who,
-        Boundaries {
-            first,
-            second,
-            third,
-        },
-    );
-}
-
-// The corridor, and then the boundaries.
-fn corridor(rt: &HostRuntime, form: Form, i: usize)
-    requires { i ≤ 2 }
-{
-    let m = mac(rt, i + 1);
-    let Address::Of(mac) = m else {
-        return;
-    };
-    let t = number(
+    let mac = mac(rt, i + 1)?;
+    let target = number(
         rt,
         i + 2,
         TARGET,
         b"TARGET is not a number from 0 to 4294967295: ",
-    );
-    let Number::Of(target) = t else {
-        return;
-    };
-    let k = number(
+    )?;
+    let instance = number(
         rt,
         i + 3,
         INSTANCE,
         b"INSTANCE is not a number from 0 to 255: ",
-    );
-    let Number::Of(instance) = k else {
-        return;
-    };
-    bounded(
-        rt,
-        form,
-        i,
-        Corridor {
-            mac,
-            target,
-            instance: (instance % 256) as u8,
-        },
-    );
+    )?;
+    Some(Corridor {
+        mac,
+        target,
+        instance: (instance % 256) as u8,
+    })
+}
+
+// The boundaries, likewise.
+fn boundaries(rt: &HostRuntime, i: usize) -> Option<Boundaries>
+    requires { i ≤ 2 }
+{
+    Some(Boundaries {
+        first: boundary(rt, i + 4, b"FIRST")?,
+        second: boundary(rt, i + 5, b"SECOND")?,
+        third: boundary(rt, i + 6, b"THIRD")?,
+    })
 }
 
 // Whether the command line has an argument of this number, where 0 is the program's own name.
@@ -445,7 +364,7 @@ fn has_argument(rt: &impl Env, i: usize) -> bool {
 fn go(rt: &HostRuntime, form: Form, i: usize)
     requires { i ≤ 2 }
 {
-    if !has_argument(rt, i + WORDS - 1) | has_argument(rt, i + WORDS) {
+    if !has_argument(rt, i + WORDS - 1) || has_argument(rt, i + WORDS) {
         complain(
             rt,
             b"7 arguments are wanted behind the option, if there is one; corridor --help names them",
@@ -458,7 +377,13 @@ fn go(rt: &HostRuntime, form: Form, i: usize)
         complain(rt, b"an argument is too long", b"");
         return;
     }
-    corridor(rt, form, i);
+    let Some(who) = corridor(rt, i) else {
+        return;
+    };
+    let Some(bounds) = boundaries(rt, i) else {
+        return;
+    };
+    open(rt, form, i, who, bounds);
 }
 
 fn main(rt: HostRuntime) {
@@ -468,8 +393,7 @@ fn main(rt: HostRuntime) {
     }
     let mut word = [0u8; WORD];
     let n = rt.arg(1, &mut word).unwrap_or(0);
-    let first = options::option_of(&word[..n]);
-    match first {
+    match options::option_of(&word[..n]) {
         Asked::Help => help(&rt),
         Asked::Text => go(&rt, Form::Text, 2),
         Asked::Svg => go(&rt, Form::Svg, 2),

@@ -1,17 +1,15 @@
 -- What a datagram says as an event, over the width of the target. Document 01, "Refusals, by number": 1, 2, 4, 5, 6, 7, the lowest that
 -- applies.
-use Rattle.std.specs.Prelude.{ℕ, ◌+◌, not, List, [], length, take, drop, leb, eqb}
+use Rattle.std.specs.Prelude.{ℕ, ◌+◌, not, List, [], Option, length, take, drop, leb, eqb}
 use Rattle.refusal.specs.Answer.{Answer, refused, full, demand}
 use Rattle.lead.specs.Lead.{is_event, event_data}
 use Rattle.sum.specs.Sum.{sum_of}
 use Rattle.frame.specs.Frame.{byte, listed}
 use Rattle.order.specs.Order.{high_first, number_in}
-use Rattle.event_type.specs.Types.{Kind, said_type, kind_of, kind_number, lacks, Carried, said_instance, instance_of}
+use Rattle.event_type.specs.Types.{Kind, said_type, kind_of, kind_number, lacks, instance_of}
 use Rattle.event.specs.Layout.{Fields, event, target_at, type_at, count_at, data_at, least}
 use Rattle.event.specs.declared.Mac.{Mac}
 use Rattle.event.specs.declared.Event.{Event}
-use Rattle.event.specs.declared.Reading.{Reading}
-use Rattle.event.specs.declared.Reading.TheVariants.{Accepted, Refused}
 
 -- an event in document 01's terms: the MAC bytes, the target as a number, the type, n, and the instance
 pub record Told : Type 0 where
@@ -19,15 +17,11 @@ pub record Told : Type 0 where
   pub target : ℕ
   pub kind : Kind
   pub n : ℕ
-  pub instance : Carried
+  pub instance : Option ℕ
 
--- what an event tells, and document 01's number and values for each case of a reading
+-- what an event tells
 abbrev pub said_event : Event → Told
-said_event e = record { mac = e.mac; target = e.target; kind = said_type e.kind; n = e.n; instance = said_instance e.instance }
-
-abbrev pub said : Reading → Answer Told
-said (Refused k) = refused k
-said (Accepted e) = full (said_event e)
+said_event e = record { mac = e.mac; target = e.target; kind = said_type e.kind; n = e.n; instance = e.instance }
 
 abbrev pub mac_of : List ℕ → Mac
 mac_of d = record { 0 = byte 2 d; 1 = byte 3 d; 2 = byte 4 d; 3 = byte 5 d; 4 = byte 6 d; 5 = byte 7 d }

@@ -2,12 +2,10 @@
 use Rattle.std.specs.Prelude.{ℕ, ◌≡◌, refl, Bool, true, false, leb, eqb}
 use Rattle.std.proofs.Common.{sym, ap, ◌∙◌}
 use Rattle.refusal.specs.Test.{pick}
-use Rattle.event_type.specs.Types.{Kind, by_name, by_number, said_type, last_named, kind_of, kind_number, said_instance}
+use Rattle.event_type.specs.Types.{Kind, by_name, by_number, said_type, last_named, kind_of, kind_number}
 use Rattle.event_type.specs.declared.EventType.{EventType}
 use Rattle.event_type.specs.declared.EventType.TheVariants.{ButtonPress, ButtonHold, AbsoluteInput, LevelChange, GroupLevelChange}
 use Rattle.event_type.specs.declared.EventType.TheVariants.{SceneChange, IsOccupied, IsUnoccupied, ColourChanged, ProfileChanged, Other}
-use Rattle.event_type.specs.declared.Instance.{Instance}
-use Rattle.event_type.specs.declared.Instance.TheVariants.{Number, Absent}
 
 -- a type keeps its number
 pub number_kept : (n : ℕ) → kind_number (kind_of n) ≡ n
@@ -47,9 +45,3 @@ type_back (Other n) = refl
 
 pub type_one : (x y : EventType) → said_type x ≡ said_type y → x ≡ y
 type_one x y e = sym (type_back x) ∙ ap type_by e ∙ type_back y
-
-pub instance_one : (x y : Instance) → said_instance x ≡ said_instance y → x ≡ y
-instance_one (Number i) (Number j) e = cc
-instance_one (Number i) Absent e = cc
-instance_one Absent (Number j) e = cc
-instance_one Absent Absent e = refl

@@ -1,12 +1,10 @@
 -- Document 01: "Event types 0, 1, 2, 6, 7 carry an instance number as first data byte, so they need n of at least 1. Types 0 to 9 have
 -- the source's names. Types above 9 are accepted and keep their number, since the maker may append more."
-use Rattle.std.specs.Prelude.{ℕ, Bool, ◌&&◌, ◌||◌, leb, eqb}
+use Rattle.std.specs.Prelude.{ℕ, Bool, Option, Some, None, ◌&&◌, ◌||◌, leb, eqb}
 use Rattle.refusal.specs.Test.{pick}
 use Rattle.event_type.specs.declared.EventType.{EventType}
 use Rattle.event_type.specs.declared.EventType.TheVariants.{ButtonPress, ButtonHold, AbsoluteInput, LevelChange, GroupLevelChange}
 use Rattle.event_type.specs.declared.EventType.TheVariants.{SceneChange, IsOccupied, IsUnoccupied, ColourChanged, ProfileChanged, Other}
-use Rattle.event_type.specs.declared.Instance.{Instance}
-use Rattle.event_type.specs.declared.Instance.TheVariants.{Number, Absent}
 
 -- a type in document 01's terms: its number, and whether it is given by the source's name or by the number alone
 pub data Kind : Type 0 where
@@ -50,16 +48,6 @@ carries t = leb t 2 || eqb t 6 || eqb t 7
 abbrev pub lacks : ℕ → ℕ → Bool
 lacks t n = carries t && eqb n 0
 
--- an instance in document 01's terms: the number that is carried, or none
-pub data Carried : Type 0 where
-  carried : ℕ → Carried
-  none : Carried
-
--- document 01's values for each case of an instance
-abbrev pub said_instance : Instance → Carried
-said_instance (Number i) = carried i
-said_instance Absent = none
-
--- the instance of an event of type t, whose first data byte b would be
-abbrev pub instance_of : ℕ → ℕ → Carried
-instance_of t b = pick (carries t) (carried b) none
+-- the instance of an event of type t, whose first data byte b would be: the number that is carried, or none
+abbrev pub instance_of : ℕ → ℕ → Option ℕ
+instance_of t b = pick (carries t) (Some b) None

@@ -2,10 +2,10 @@
 #![tactic(auto)]
 
 ghost use Rattle.std.specs.Prelude.{◌≡◌};
-ghost use Rattle.event_type.specs.Types.{said_type, kind_of, type_number, carries, said_instance, instance_of};
+ghost use Rattle.event_type.specs.Types.{said_type, kind_of, type_number, carries, instance_of};
 
 // An event's type: types 0 to 9 by source 002's names, in its order; another keeps its number.
-#[derive(Clone, Copy)]
+#[derive(Clone, Copy, Debug, PartialEq, Eq)]
 pub enum EventType {
     ButtonPress,
     ButtonHold,
@@ -20,18 +20,11 @@ pub enum EventType {
     Other(u8),
 }
 
-// The instance number, where the type carries one.
-#[derive(Clone, Copy)]
-pub enum Instance {
-    Number(u8),
-    Absent,
-}
+// The type that a number stands for.
+impl From<u8> for EventType {
+    ghost from_gives = { λ n t. said_type t ≡ kind_of n };
 
-impl EventType {
-    // The type that a number stands for.
-    pub fn of(number: u8) -> EventType
-        ensures { said_type result ≡ kind_of number }
-    {
+    fn from(number: u8) -> EventType {
         match number {
             0 => EventType::ButtonPress,
             1 => EventType::ButtonHold,
@@ -46,7 +39,9 @@ impl EventType {
             _ => EventType::Other(number),
         }
     }
+}
 
+impl EventType {
     // The number of a type.
     pub fn number(self) -> u8
         ensures { result ≡ type_number self }
@@ -74,13 +69,13 @@ pub fn has_instance(kind: u8) -> bool
     (kind <= 2) | (kind == 6) | (kind == 7)
 }
 
-// The instance of an event of this type, whose first data byte this would be.
-pub fn instance_of(kind: u8, first: u8) -> Instance
-    ensures { said_instance result ≡ instance_of kind first }
+// The instance of an event of this type, whose first data byte this would be, where the type carries one.
+pub fn instance_of(kind: u8, first: u8) -> Option<u8>
+    ensures { result ≡ instance_of kind first }
 {
     if has_instance(kind) {
-        Instance::Number(first)
+        Some(first)
     } else {
-        Instance::Absent
+        None
     }
 }

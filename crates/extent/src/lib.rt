@@ -9,7 +9,7 @@ ghost use Rattle.extent.specs.Line.{is_lead, length_extent, request_extent, repl
 
 use command::Shape;
 
-#[derive(Clone, Copy)]
+#[derive(Clone, Copy, Debug)]
 pub enum Line {
     Request,
     Reply,
@@ -32,7 +32,7 @@ pub fn most(line: Line) -> usize
 
 // What the bytes of a frame tell of its length: too few are there; an item, by its number, and how many bytes tell it; or
 // the frame's length.
-#[derive(Drop)]
+#[derive(Clone, Copy, Debug)]
 pub enum Extent {
     Wait,
     Bad(u8, usize),
@@ -56,8 +56,7 @@ fn request_extent(s: &[u8]) -> Extent
     if s.len() < 3 {
         return Extent::Wait;
     }
-    let shape = command::shape_of(s[2]);
-    match shape {
+    match command::shape_of(s[2]) {
         Shape::Unknown => Extent::Bad(3, 3),
         Shape::Basic(_) => Extent::Frame(command::BASIC_BYTES),
         Shape::Unicast => unicast_extent(s),
@@ -77,6 +76,7 @@ fn unicast_extent(s: &[u8]) -> Extent
     Extent::Frame(command::UNICAST_BYTES)
 }
 
+#[tactic(auto, using(command::specs::Listed::bytes_most))]
 fn colour_extent(s: &[u8]) -> Extent
     ensures { result ≡ length_extent (length_of Colour) s.now }
 {

@@ -1,12 +1,10 @@
 -- docs/SHEET.md: the texts and the numbers that more than one form of the sheet has.
-use Rattle.std.specs.Prelude.{ℕ, ◌+◌, ◌*◌, ◌/◌, ◌%◌, List, [], ◌∷◌, ◌++◌, leb, ltb, eqb}
+use Rattle.std.specs.Prelude.{ℕ, ◌+◌, ◌*◌, ◌/◌, ◌%◌, List, [], ◌∷◌, ◌++◌, leb, ltb, eqb, Option, Some, None}
 use Rattle.refusal.specs.Test.{pick}
 use Rattle.words.specs.Words.{text}
 use Rattle.text.specs.Text.{hex_of, decimal_of}
 use Rattle.calendar.specs.Calendar.{time_text}
 use Rattle.event.specs.declared.Mac.{Mac}
-use Rattle.summary.specs.declared.Seconds.{Seconds}
-use Rattle.summary.specs.declared.Seconds.TheVariants.{Absent, At}
 use Rattle.season.specs.declared.Corridor.{Corridor}
 use Rattle.season.specs.declared.Boundaries.{Boundaries}
 
@@ -48,14 +46,14 @@ abbrev pub span_text : ℕ → List ℕ
 span_text s = whole (span_texts s)
 
 -- "and one that is not there `-`"
-abbrev pub span_or : Seconds → List ℕ
-span_or Absent = text "-"
-span_or (At s) = span_text s
+abbrev pub span_or : Option ℕ → List ℕ
+span_or None = text "-"
+span_or (Some s) = span_text s
 
 -- A TIME. "A time is written `2026-03-01 00:00:00`, which has 19 bytes, and one that is not there `-`"
-abbrev pub time_or : Seconds → List ℕ
-time_or Absent = text "-"
-time_or (At t) = time_text t
+abbrev pub time_or : Option ℕ → List ℕ
+time_or None = text "-"
+time_or (Some t) = time_text t
 
 -- LINE 1 OF --text. "`Corridor `, the MAC in capitals with `:` between the bytes, `, target `, its number, `, instance `, its number,
 -- `, times in UTC`"
@@ -72,8 +70,8 @@ title_texts who = text "Corridor " ∷ (mac_texts who.mac ++ number_texts who.ta
 
 -- WHERE A SEASON BEGINS AND ENDS, by its place g from 0. "the boundary with which the season begins", "the one before which it ends"; "the
 -- first season has no `from` and the fourth no `to`"
-abbrev pub begin_of : Boundaries → ℕ → Seconds
-begin_of b g = pick (eqb g 1) (At b.first) (pick (eqb g 2) (At b.second) (pick (eqb g 3) (At b.third) Absent))
+abbrev pub begin_of : Boundaries → ℕ → Option ℕ
+begin_of b g = pick (eqb g 1) (Some b.first) (pick (eqb g 2) (Some b.second) (pick (eqb g 3) (Some b.third) None))
 
-abbrev pub end_of : Boundaries → ℕ → Seconds
-end_of b g = pick (eqb g 0) (At b.first) (pick (eqb g 1) (At b.second) (pick (eqb g 2) (At b.third) Absent))
+abbrev pub end_of : Boundaries → ℕ → Option ℕ
+end_of b g = pick (eqb g 0) (Some b.first) (pick (eqb g 1) (Some b.second) (pick (eqb g 2) (Some b.third) None))

@@ -1,22 +1,12 @@
--- The ways of a share; and a text that is put in steps, made aside: in a buffer that has room for it.
-use Rattle.std.specs.Prelude.{ℕ, ◌+◌, ◌/◌, ◌≤◌, ◌<◌, ◌≡◌, refl, List, [], ◌∷◌, ◌++◌, length, take, drop}
-use Rattle.std.proofs.Common.{sym, length-append, le-ltb, lt-ltb, arith}
+-- A text that is put in steps, made aside: in a buffer that has room for it.
+use Rattle.std.specs.Prelude.{ℕ, ◌+◌, ◌/◌, ◌≤◌, ◌≡◌, refl, List, [], ◌∷◌, ◌++◌, length, take, drop}
+use Rattle.std.proofs.Common.{sym, length-append, arith}
 use Rattle.std.proofs.Math.Seq.{take-append_seam}
 use Rattle.lent.specs.Puts.{place_after, buffer_after, Puts, over_none, room}
 use Rattle.lent.specs.All.{place_all, buffer_all, PutsAll}
 use Rattle.lent.specs.Over.{puts_room, puts_length, puts_then}
 use Rattle.text.specs.Decimal.{decimal_most}
-use Rattle.figures.specs.Figures.{scaled_of, lesser_of, wide, share_of, whole, span_text}
-
--- a share, by whether its numbers are divided first
-module _ (n most k : ℕ) {r : ℕ} where
-  pub share_narrow : most < wide → r ≡ scaled_of (lesser_of n most) most k → r ≡ share_of n most k
-  unfolding share_of
-  share_narrow h e = rw (lt-ltb most wide h) e
-
-  pub share_wide : wide ≤ most → r ≡ scaled_of (lesser_of n most / 256) (most / 256) k → r ≡ share_of n most k
-  unfolding share_of
-  share_wide h e = rw (le-ltb most wide h) e
+use Rattle.figures.specs.Figures.{whole, span_texts, span_text}
 
 -- where all have room, texts put one behind the other are the whole of them put
 pub all_room : (ts : List (List ℕ)) {out o : List ℕ} {at r : ℕ} → at + length (whole ts) ≤ length out → PutsAll ts out at r o → Puts (whole ts) out at r o
@@ -39,3 +29,10 @@ aside t {out} {o} {r} h p =
 -- a span has 29 bytes at most
 pub span_most : (s : ℕ) → length (span_text s) ≤ 29
 span_most s = simp length-append (omega (arith, decimal_most 20 (s / 3600)))
+
+-- so a span is made aside
+pub span_aside : (s : ℕ) {out o : List ℕ} {r : ℕ} → length out ≡ 29 → PutsAll (span_texts s) out 0 r o
+    → (r ≡ length (span_text s)) × (take r o ≡ span_text s) × (r ≤ length o)
+span_aside s n p =
+    let m = span_most s in
+    aside (span_text s) (omega arith) (all_room (span_texts s) (omega arith) p)

@@ -13,33 +13,18 @@ ghost use Rattle.figures.specs.Figures.{time_or, mac_texts, number_texts, title_
 
 use event::Mac;
 use season::{Boundaries, Corridor};
-use summary::Seconds;
 
 // From 2^56 on a number is divided by 256 before its share is taken, so that the product fits into 64 bits.
 const WIDE: u64 = 72057594037927936;
 
 // The most that a span takes: a number of 20 digits, ` h `, two digits, ` min`.
-const SPAN: usize = 29;
-
-// The lesser of two numbers.
-fn lesser(a: u64, b: u64) -> u64
-    ensures { result ≡ lesser_of a b }
-{
-    if a <= b { a } else { b }
-}
-
-// The greater.
-fn greater(a: u64, b: u64) -> u64
-    ensures { result ≡ greater_of a b }
-{
-    if a <= b { b } else { a }
-}
+pub const SPAN: usize = 29;
 
 // The greatest of four.
 pub fn greatest(a: u64, b: u64, c: u64, d: u64) -> u64
     ensures { result ≡ greatest_of a b c d }
 {
-    greater(greater(a, b), greater(c, d))
+    a.max(b).max(c.max(d))
 }
 
 // A share, where the product fits.
@@ -54,14 +39,16 @@ fn scaled(n: u64, most: u64, k: u8) -> u64
 }
 
 // The share of n of k, where most is the greatest: as many of k as n is of most, rounded down.
+#[tactic(auto, unfolding(crate::specs::Figures::share_of))]
 pub fn share(n: u64, most: u64, k: u8) -> u64
     ensures { result ≡ share_of n most k }
 {
-    let m = lesser(n, most);
+    let m = n.min(most);
     if most < WIDE {
-        return scaled(m, most, k);
+        scaled(m, most, k)
+    } else {
+        scaled(m / 256, most / 256, k)
     }
-    scaled(m / 256, most / 256, k)
 }
 
 // Puts a number below 100 with two digits.
@@ -69,8 +56,7 @@ fn put_two(out: &mut [u8], at: usize, n: u64) -> usize
     requires { n < 100 }
     ensures { Puts (two_of n) out.old at result out.new }
 {
-    let digits = [48 + ((n / 10) as u8), 48 + ((n % 10) as u8)];
-    lent::word(out, at, &digits)
+    lent::word(out, at, &[b'0' + (n / 10) as u8, b'0' + (n % 10) as u8])
 }
 
 // Puts a span in four steps.
@@ -93,12 +79,12 @@ pub fn put_span(out: &mut [u8], at: usize, seconds: u64) -> usize
 }
 
 // Puts a time, or `-` where it is not there.
-pub fn put_time(out: &mut [u8], at: usize, t: Seconds) -> usize
+pub fn put_time(out: &mut [u8], at: usize, t: Option<u32>) -> usize
     ensures { Puts (time_or t) out.old at result out.new }
 {
     match t {
-        Seconds::Absent => lent::word(out, at, b"-"),
-        Seconds::At(s) => calendar::put_time(out, at, s),
+        None => lent::word(out, at, b"-"),
+        Some(s) => calendar::put_time(out, at, s),
     }
 }
 
@@ -137,40 +123,31 @@ fn put_numbers(out: &mut [u8], at: usize, target: u32, instance: u8) -> usize
 pub fn put_title(out: &mut [u8], at: usize, who: Corridor) -> usize
     ensures { PutsAll (title_texts who) out.old at result out.new }
 {
-    let mac = who.mac;
     let a = lent::word(out, at, b"Corridor ");
-    let b = put_mac(out, a, mac);
+    let b = put_mac(out, a, who.mac);
     put_numbers(out, b, who.target, who.instance)
 }
 
 // Where a season begins, by its place from 0: the first has no beginning.
-pub fn begins(b: Boundaries, g: usize) -> Seconds
+pub fn begins(b: Boundaries, g: usize) -> Option<u32>
     ensures { result ≡ begin_of b g }
 {
-    if g == 1 {
-        return Seconds::At(b.first);
+    match g {
+        1 => Some(b.first),
+        2 => Some(b.second),
+        3 => Some(b.third),
+        _ => None,
     }
-    if g == 2 {
-        return Seconds::At(b.second);
-    }
-    if g == 3 {
-        return Seconds::At(b.third);
-    }
-    Seconds::Absent
 }
 
 // Where it ends: the fourth has no end.
-pub fn ends(b: Boundaries, g: usize) -> Seconds
+pub fn ends(b: Boundaries, g: usize) -> Option<u32>
     ensures { result ≡ end_of b g }
 {
-    if g == 0 {
-        return Seconds::At(b.first);
+    match g {
+        0 => Some(b.first),
+        1 => Some(b.second),
+        2 => Some(b.third),
+        _ => None,
     }
-    if g == 1 {
-        return Seconds::At(b.second);
-    }
-    if g == 2 {
-        return Seconds::At(b.third);
-    }
-    Seconds::Absent
 }

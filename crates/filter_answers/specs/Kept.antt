@@ -13,11 +13,12 @@ use Rattle.refusal.specs.Test.{pick, both_left, both_right}
 use Rattle.refusal.specs.Answer.{Answer, refused, full}
 use Rattle.sum.specs.Bytes.{Bytes, bytes_take, bytes_drop}
 use Rattle.filter_asked.specs.declared.Filter.{Filter}
-use Rattle.filter_asked.specs.Asked.{Change, add, clear, asked}
+use Rattle.filter_asked.specs.declared.Change.{Change}
+use Rattle.filter_asked.specs.declared.Change.TheVariants.{Add as add, Clear as clear}
+use Rattle.filter_asked.specs.Asked.{asked}
 use Rattle.filter_asked.specs.Requests.{filter_of, mask_fits}
-use Rattle.filter_plan.specs.declared.Went.TheVariants.{Well, Bad}
 use Rattle.filter_plan.specs.Filters.{is_of, added, cleared, changed}
-use Rattle.filter_plan.specs.Plan.{request_at, Run, run, filters_in, judged, step_of, onward, after}
+use Rattle.filter_plan.specs.Plan.{request_at, Run, run, filters_in, judged, step_of, onward, after, well, bad}
 use Rattle.filter_plan.specs.Places.{joined, lessened}
 use Rattle.filter_plan.specs.Runs.{after_few, step_changed}
 
@@ -165,8 +166,8 @@ masked_changed (add f) l h = masked_added f l h
 masked_changed (clear f) l h = masked_cleared f l h
 
 onward_kept : (r : Run) (k : ℕ) (d : List ℕ) → Distinct (filters_in r) × Masked (filters_in r) → Distinct (filters_in (onward r k d)) × Masked (filters_in (onward r k d))
-onward_kept (run l (Bad j n)) k d h = h
-onward_kept (run l Well) k d h = go (step_of (asked d) l) refl
+onward_kept (run l (bad j n)) k d h = h
+onward_kept (run l well) k d h = go (step_of (asked d) l) refl
   where
     go : (v : Answer (List Filter)) → step_of (asked d) l ≡ v → Distinct (filters_in (judged k l v)) × Masked (filters_in (judged k l v))
     go (refused n) e = h
@@ -189,8 +190,8 @@ fit_changed (add f) l m h = fit_added f m l h
 fit_changed (clear f) l m h = fit_cleared f l h
 
 onward_fit : (r : Run) (k : ℕ) (d : List ℕ) → Bytes d → Fit (filters_in r) → Fit (filters_in (onward r k d))
-onward_fit (run l (Bad j n)) k d b h = h
-onward_fit (run l Well) k d b h = go (step_of (asked d) l) refl
+onward_fit (run l (bad j n)) k d b h = h
+onward_fit (run l well) k d b h = go (step_of (asked d) l) refl
   where
     go : (v : Answer (List Filter)) → step_of (asked d) l ≡ v → Fit (filters_in (judged k l v))
     go (refused n) e = h

@@ -1,7 +1,7 @@
 -- The slip of last March: a request that adds a filter, its mask handed over with the two bytes exchanged. The sum is the same and every argument is
 -- within its range, so nothing complains; and it hides other types than it should, unless the two bytes are equal (document 01, "Slips we have
 -- seen", with `mask_slip` of crate maps).
-use Rattle.std.specs.Prelude.{ℕ, ◌+◌, ◌/◌, ◌%◌, ◌^◌, ◌<◌, ◌≡◌, refl, Bool, true, false, List, [], ◌∷◌, ◌++◌, ◌↔◌, eqb}
+use Rattle.std.specs.Prelude.{ℕ, ◌+◌, ◌/◌, ◌%◌, ◌^◌, ◌<◌, ◌≡◌, refl, Bool, true, false, List, [], ◌∷◌, ◌++◌, ◌↔◌, eqb, Some}
 use Rattle.std.proofs.Common.{sym, ap, ◌∙◌, le-leb, arith}
 use mathlib.Core.Logic.Iff
 use Rattle.std.specs.Int.Bits.{bit_xor}
@@ -22,12 +22,11 @@ use Rattle.ranges.specs.Arguments.{is_filtered, fits}
 use Rattle.meaning.specs.Meaning.{pair, meaning_of}
 use Rattle.request.specs.Reading.{basic_heard, read_basic, read_request}
 use Rattle.filter_asked.specs.declared.Filter.{Filter}
-use Rattle.filter_asked.specs.Asked.{add, change_heard, asked, is_named}
+use Rattle.filter_asked.specs.declared.Change.TheVariants.{Add as add}
+use Rattle.filter_asked.specs.Asked.{change_heard, asked, is_named}
 use Rattle.filter_asked.specs.Named.{named_one}
-use Rattle.filter_plan.specs.declared.Verdict.TheVariants.{Yes, Hidden}
-use Rattle.filter_since.specs.declared.Since.TheVariants.{Request}
 use Rattle.filter_plan.specs.Filters.{added, cleared, next, mask_at}
-use Rattle.filter_plan.specs.Plan.{after, filters_in, left_of, checked}
+use Rattle.filter_plan.specs.Plan.{after, filters_in, left_of, checked, told_yes, told_hidden}
 use Rattle.filter_since.specs.Trace.{since_by, since_of}
 
 -- a mask of two bytes, and the same with them exchanged, is a number of 16 bits
@@ -130,7 +129,7 @@ abbrev pub swapped : List ℕ
 swapped = plan_with 0x08 0x01
 
 -- as it was meant, the plan passes; with the two bytes swapped it hides the presses, since its second request
-pub march : (checked planned corridor ≡ Yes) × (checked swapped corridor ≡ Hidden 1) × (since_of swapped 68 3 0 ≡ Request 1)
+pub march : (checked planned corridor ≡ told_yes) × (checked swapped corridor ≡ told_hidden 1) × (since_of swapped 68 3 0 ≡ Some 1)
 unfolding
     sum_from number_by shape_of is_retired fits meaning_of read_basic read_request asked bit lowest added cleared next mask_at after checked since_by
 march = (refl, refl, refl)

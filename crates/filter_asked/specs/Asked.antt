@@ -8,15 +8,10 @@ use Rattle.meaning.specs.Meaning.{Sense, bare, group, emit, timers, group_scene,
 use Rattle.request.specs.Said.{Inside, arguments, address, coloured, Heard, heard}
 use Rattle.request.specs.Reading.{read_request}
 use Rattle.filter_asked.specs.declared.Filter.{Filter}
-use Rattle.filter_asked.specs.declared.Asked.{Asked}
-use Rattle.filter_asked.specs.declared.Asked.TheVariants.{Add, Clear, Refused}
+use Rattle.filter_asked.specs.declared.Change.{Change}
+use Rattle.filter_asked.specs.declared.Change.TheVariants.{Add as add, Clear as clear}
 
--- 31 adds, 33 clears: an address, an instance, a mask
-pub data Change : Type 0 where
-  add : Filter → Change
-  clear : Filter → Change
-
--- what a command asks whose arguments mean this; what means no filter is no 31 and no 33
+-- what a command asks whose arguments mean this: 31 adds, 33 clears an address, an instance, a mask; what means no filter is no 31 and no 33
 abbrev pub change_by : ℕ → Filter → Answer Change
 change_by c f = pick (eqb c 0x31) (full (add f)) (pick (eqb c 0x33) (full (clear f)) (refused 18))
 
@@ -52,9 +47,3 @@ asked d = change_heard (read_request d)
 -- whether a mask names a type: "its type's bit stands"; "types above 15 never are" hidden
 abbrev pub is_named : ℕ → ℕ → Bool
 is_named mask t = leb t 15 && eqb (bit mask t) 1
-
--- document 02's number and values for each case of an answer
-abbrev pub said_asked : Asked → Answer Change
-said_asked (Refused k) = refused k
-said_asked (Add f) = full (add f)
-said_asked (Clear f) = full (clear f)

@@ -1,6 +1,5 @@
 -- what the contracts cite
 pub mod Asked
 -- what is claimed of it
-pub mod Determined
 pub mod Named
 pub mod Requests

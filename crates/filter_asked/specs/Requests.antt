@@ -23,7 +23,9 @@ use Rattle.request.specs.Said.{Inside, arguments, address, coloured, Heard, hear
 use Rattle.request.specs.Reading.{read_basic, read_unicast, read_coloured, read_shape, read_request, basic_heard}
 use Rattle.request.proofs.Retired.{heard_command}
 use Rattle.filter_asked.specs.declared.Filter.{Filter}
-use Rattle.filter_asked.specs.Asked.{Change, add, clear, change_in, change_inside, change_heard, asked}
+use Rattle.filter_asked.specs.declared.Change.{Change}
+use Rattle.filter_asked.specs.declared.Change.TheVariants.{Add as add, Clear as clear}
+use Rattle.filter_asked.specs.Asked.{change_in, change_inside, change_heard, asked}
 
 -- the filter of a request's bytes: address, instance, and the mask high byte first
 abbrev pub filter_at : List ℕ → Filter

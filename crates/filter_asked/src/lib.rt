@@ -4,11 +4,13 @@
 
 ghost use Rattle.std.specs.Prelude.{◌≡◌};
 ghost use Rattle.meaning.specs.Meaning.{said_meaning};
+ghost use Rattle.refusal.specs.Answer.{said};
 ghost use Rattle.request.specs.Said.{said_contents};
-ghost use Rattle.filter_asked.specs.Asked.{said_asked, change_in, change_inside, asked, is_named};
+ghost use Rattle.filter_asked.specs.Asked.{change_in, change_inside, asked, is_named};
 
 use meaning::Meaning;
-use request::{Contents, Reading};
+use refusal::Refusal;
+use request::Contents;
 
 // "for a command other than 31 or 33"
 pub const ADD: u8 = 0x31;
@@ -22,81 +24,69 @@ const LAST_TYPE: u8 = 15;
 // crate c_plan hands it on as it is.
 #[derive(Clone, Copy)]
 #[repr(C)]
-#[derive(Drop)]
 pub struct Filter {
     pub address: u8,
     pub instance: u8,
     pub mask: u16,
 }
 
-// What a request asks, or the number of the refusal.
-#[derive(Drop)]
-pub enum Asked {
+// What a request asks: a filter added, or the bits of one cleared.
+#[derive(Clone, Copy)]
+pub enum Change {
     Add(Filter),
     Clear(Filter),
-    Refused(u8),
 }
 
 // What a command asks whose arguments mean this; 18 where it sets no filter.
-fn by_meaning(command: u8, meaning: Meaning) -> Asked
-    ensures { said_asked result ≡ change_in command (said_meaning meaning) }
+fn by_meaning(command: u8, meaning: Meaning) -> Result<Change, Refusal>
+    ensures { said result ≡ change_in command (said_meaning meaning) }
 {
-    match meaning {
-        Meaning::Filter {
-            address,
-            instance,
-            mask,
-        } => {
-            let filter = Filter {
-                address,
-                instance,
-                mask,
-            };
-            if command == ADD {
-                return Asked::Add(filter);
-            }
-            if command == CLEAR {
-                return Asked::Clear(filter);
-            }
-            Asked::Refused(18)
-        }
-        _ => Asked::Refused(18),
+    let Meaning::Filter {
+        address,
+        instance,
+        mask,
+    } = meaning
+    else {
+        return Err(Refusal::NotAFilter);
+    };
+    let filter = Filter {
+        address,
+        instance,
+        mask,
+    };
+    match command {
+        ADD => Ok(Change::Add(filter)),
+        CLEAR => Ok(Change::Clear(filter)),
+        _ => Err(Refusal::NotAFilter),
     }
 }
 
 // What an accepted request asks.
-fn by_contents(command: u8, contents: Contents) -> Asked
-    ensures { said_asked result ≡ change_inside command (said_contents contents) }
+fn by_contents(command: u8, contents: Contents) -> Result<Change, Refusal>
+    ensures { said result ≡ change_inside command (said_contents contents) }
 {
     match contents {
         Contents::Basic {
             arguments: _,
             meaning,
         } => by_meaning(command, meaning),
-        _ => Asked::Refused(18),
+        _ => Err(Refusal::NotAFilter),
     }
 }
 
 // What a request of a plan asks: 1 to 7 as the request is read, then 18.
-pub fn read(s: &[u8]) -> Asked
-    ensures { said_asked result ≡ asked s.now }
+#[tactic(auto, unfolding(crate::specs::Asked::asked))]
+pub fn read(s: &[u8]) -> Result<Change, Refusal>
+    ensures { said result ≡ asked s.now }
 {
-    let r = request::read(s);
-    match r {
-        Reading::Refused(k) => Asked::Refused(k),
-        Reading::Accepted(q) => {
-            let contents = q.contents;
-            by_contents(q.command, contents)
-        }
-    }
+    let request = request::read(s)?;
+    by_contents(request.command, request.contents)
 }
 
 // Whether a mask names a type.
+#[tactic(auto, unfolding(maps::specs::Bit::bit))]
 pub fn names(mask: u16, kind: u8) -> bool
     ensures { result ≡ is_named mask kind }
 {
-    if LAST_TYPE < kind {
-        return false;
-    }
-    (mask >> kind) % 2 == 1
+    kind <= LAST_TYPE && (mask >> kind) % 2 == 1
 }

@@ -1,25 +1,35 @@
 -- An entry is dropped by a move of those behind it, one place each.
-use Rattle.std.specs.Prelude.{ℕ, zero, suc, ◌-◌, ◌≤◌, ◌<◌, ◌≡◌, refl, List, [], ◌∷◌, ◌++◌, length, get_or, set, take, drop, replicate}
-use Rattle.std.proofs.Common.{sym, ap, ap₂, ◌∙◌, take_at, drop_at, length-take-le, arith}
-use Rattle.std.proofs.lemmas.List.{set_split}
+use Rattle.std.specs.Prelude.{ℕ, zero, suc, ◌+◌, ◌-◌, ◌≤◌, ◌<◌, ◌≡◌, refl, List, [], ◌∷◌, ◌++◌, length, set, take, drop, replicate}
+use Rattle.std.proofs.Common.{sym, ap, ap₂, ◌∙◌, append_assoc, take_at, drop_at, length-drop, length-take-le, arith}
+use Rattle.std.proofs.Math.Seq.{paste}
+use Rattle.std.proofs.lemmas.List.{set_split, drop-drop, take-append-drop}
+use Rattle.std.proofs.lemmas.List.Edits.{length-paste, take-paste, drop-paste}
 use Rattle.filter_asked.specs.declared.Filter.{Filter}
 use Rattle.filter_plan.specs.declared.Filters.{Filters}
 use Rattle.filter_plan.specs.Table.{none, table_of, list_of, IsTable, dropped}
 use Rattle.filter_plan.specs.Tables.{count_list}
-
--- with the next entry copied over the one at i, to drop the one at i + 1 is to drop the one at i
-pub move_up : (l : List Filter) (i : ℕ) → suc i < length l → dropped (suc i) (set l i (get_or l (suc i) none)) ≡ dropped i l
-unfolding dropped
-move_up [] i h = refl
-move_up (x ∷ []) i h = absurd (omega arith)
-move_up (x ∷ y ∷ l) zero h = refl
-move_up (x ∷ y ∷ l) (suc i) h = ap (λ (m : List Filter). x ∷ m) (move_up (y ∷ l) i (omega arith))
 
 dropped_split : (l : List Filter) (k : ℕ) → k < length l → dropped k l ≡ take k l ++ drop (suc k) l
 unfolding dropped
 dropped_split [] k h = absurd (omega arith)
 dropped_split (x ∷ l) zero h = refl
 dropped_split (x ∷ l) (suc k) h = ap (λ (m : List Filter). x ∷ m) (dropped_split l k (omega arith))
+
+-- with the n behind the one at k copied one place up, to drop the last of them is to drop the one at k
+pub moved_up : (l : List Filter) (k n : ℕ) → k + n < length l → dropped (k + n) (paste l k (drop (k + 1) l) n) ≡ dropped k l
+moved_up l k n h =
+    let s = paste l k (drop (k + 1) l) n in
+    let y = drop (k + 1) l in
+    let ly : n ≤ length y = omega (arith, length-drop (k + 1) l) in
+    let ls : length s ≡ length l = length-paste l k y n (omega arith) ly in
+    let a : take (k + n) s ≡ take k l ++ take n y = take-paste l k y n (omega arith) ly in
+    let u : suc (k + n) ≡ k + n + 1 = omega arith in
+    let v : k + n + 1 ≡ k + 1 + n = omega arith in
+    let w : k + 1 ≡ suc k = omega arith in
+    let b : drop (suc (k + n)) s ≡ drop n y =
+    ap (λ (i : ℕ). drop i s) u ∙ sym (drop-drop 1 (k + n) s) ∙ ap (drop 1) (drop-paste l k y n (omega arith) ly) ∙ drop-drop 1 (k + n) l ∙ ap (λ (i : ℕ). drop i l) v ∙ sym (drop-drop n (k + 1) l) in
+    dropped_split s (k + n) (omega arith) ∙ ap₂ (λ (u v : List Filter). u ++ v) a b ∙ append_assoc (take k l) (take n y) (drop n y)
+    ∙ ap (λ (u : List Filter). take k l ++ u) (take-append-drop n y ∙ ap (λ (i : ℕ). drop i l) w) ∙ sym (dropped_split l k (omega arith))
 
 dropped_append : (l r : List Filter) (k : ℕ) → k < length l → dropped k (l ++ r) ≡ dropped k l ++ r
 unfolding dropped

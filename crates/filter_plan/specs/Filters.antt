@@ -5,7 +5,9 @@ use Rattle.std.specs.Int.Bits.{bit_and, bit_or}
 use Rattle.refusal.specs.Test.{pick}
 use Rattle.refusal.specs.Answer.{Answer, full, demand}
 use Rattle.filter_asked.specs.declared.Filter.{Filter}
-use Rattle.filter_asked.specs.Asked.{Change, add, clear, is_named}
+use Rattle.filter_asked.specs.declared.Change.{Change}
+use Rattle.filter_asked.specs.declared.Change.TheVariants.{Add as add, Clear as clear}
+use Rattle.filter_asked.specs.Asked.{is_named}
 
 -- whether a filter is the entry of an address and an instance
 abbrev pub is_of : ℕ → ℕ → Filter → Bool

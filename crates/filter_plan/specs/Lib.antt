@@ -2,6 +2,7 @@
 pub mod Filters
 pub mod Plan
 pub mod Table
+pub mod Said
 -- what only serves proofs (what is claimed: crate filter_answers)
 pub mod Places
 pub mod Tables

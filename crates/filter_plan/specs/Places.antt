@@ -1,8 +1,11 @@
 -- The place of an entry, found by a look at one after the other, and what is added, cleared and hidden there.
-use Prim.Native.Nat.{ℕ, suc, ◌+◌, ◌≤◌, ◌<◌}
-use Rattle.std.specs.Prelude.{◌≡◌, Bool, eqb, get_or, drop}
+use Prim.Native.Nat.{ℕ, suc, ◌≤◌, ◌<◌}
+use Rattle.std.specs.Prelude.{◌≡◌, Bool, eqb, get_or, Option, unwrap_or}
+use Rattle.std.specs.Option.{MatchOption}
+use Rattle.std.specs.List.{AllWithin, HoldsAt}
+use Rattle.std.proofs.lemmas.Iterator.{index_from_first}
 use Rattle.std.proofs.Math.Path.{refl, ap}
-use Rattle.std.proofs.Common.{◌∙◌, drop-cons}
+use Rattle.std.proofs.Common.{◌∙◌}
 use Rattle.std.proofs.Math.Bool.{true, false}
 use mathlib.Core.List.{List, [], ◌∷◌, ◌++◌}
 use Rattle.std.specs.Int.Bits.{bit_or}
@@ -27,26 +30,13 @@ module _ (a i : ℕ) where
       go true h = omega arith
       go false h = omega arith
 
-  -- those before place k were passed: what is left tells the place
-  abbrev pub Passed : List Filter → ℕ → Type 0
-  Passed l k = place_of a i l ≡ k + place_of a i (drop k l)
-
-  here : (l : List Filter) (k : ℕ) → k < length l → is_of a i (entry_at l k) ≡ true → place_of a i (drop k l) ≡ 0
+  -- the place, as a search through all finds it
+  pub place_first : (l : List Filter) (r : Option ℕ)
+      → MatchOption r (AllWithin (λ g. is_of a i g ≡ false) l 0 (length l)) (λ k. (k < length l) × HoldsAt (λ g. is_of a i g ≡ true) l k × AllWithin (λ g. is_of a i g ≡ false) l 0 k)
+      → place_of a i l ≡ unwrap_or r (length l)
   unfolding place_of
-  here l k h e = rw (drop-cons l k none h, e)
-
-  on : (l : List Filter) (k : ℕ) → k < length l → is_of a i (entry_at l k) ≡ false → place_of a i (drop k l) ≡ suc (place_of a i (drop (suc k) l))
-  unfolding place_of
-  on l k h e = rw (drop-cons l k none h, e)
-
-  pub place_here : (l : List Filter) (k : ℕ) → k < length l → is_of a i (entry_at l k) ≡ true → Passed l k → k ≡ place_of a i l
-  place_here l k h e p = omega (arith, here l k h e, p)
-
-  pub place_on : (l : List Filter) (k : ℕ) → k < length l → is_of a i (entry_at l k) ≡ false → Passed l k → Passed l (suc k)
-  place_on l k h e p = omega (arith, on l k h e, p)
-
-  pub place_end : (l : List Filter) (k : ℕ) → length l ≤ k → Passed l k → k ≡ place_of a i l
-  place_end l k h p = omega (arith, p, place_most l)
+  place_first l r h =
+      index_from_first (place_of a i) (λ g. is_of a i g ≡ true) (λ g. is_of a i g ≡ false) refl (λ g m e. rw e) (λ g m e. rw e (omega arith)) l r h
 
   -- the mask that stands there; 0 where none does
   pub mask_there : (l : List Filter) → place_of a i l < length l → mask_at a i l ≡ (entry_at l (place_of a i l)).mask

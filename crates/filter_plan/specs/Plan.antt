@@ -6,11 +6,8 @@ use Rattle.refusal.specs.Test.{pick, flag}
 use Rattle.refusal.specs.Answer.{Answer, refused, full}
 use Rattle.maps.specs.Bit.{lowest}
 use Rattle.filter_asked.specs.declared.Filter.{Filter}
-use Rattle.filter_asked.specs.Asked.{Change, asked}
-use Rattle.filter_plan.specs.declared.Went.{Went}
-use Rattle.filter_plan.specs.declared.Went.TheVariants.{Well, Bad}
-use Rattle.filter_plan.specs.declared.Verdict.{Verdict}
-use Rattle.filter_plan.specs.declared.Verdict.TheVariants.{Yes, Hidden, Bad as verdict·Bad}
+use Rattle.filter_asked.specs.declared.Change.{Change}
+use Rattle.filter_asked.specs.Asked.{asked}
 use Rattle.filter_plan.specs.Filters.{next, is_hidden}
 
 -- request k, and how many there are
@@ -19,6 +16,11 @@ request_at p k = take 8 (drop (8 * k) p)
 
 abbrev pub requests : List ℕ → ℕ
 requests p = (length p + 7) / 8
+
+-- how a plan went: all its requests are good, or the first bad one, by its place and the number of its refusal
+pub data Went : Type 0 where
+  well : Went
+  bad : ℕ → ℕ → Went
 
 -- the filters after some requests, and whether these were good; a bad one leaves the filters as they were
 pub data Run : Type 0 where
@@ -31,8 +33,8 @@ abbrev pub went_in : Run → Went
 went_in (run l w) = w
 
 abbrev pub judged : ℕ → List Filter → Answer (List Filter) → Run
-judged k l (refused n) = run l (Bad k n)
-judged k l (full m) = run m Well
+judged k l (refused n) = run l (bad k n)
+judged k l (full m) = run m well
 
 abbrev pub step_of : Answer Change → List Filter → Answer (List Filter)
 step_of (refused n) l = refused n
@@ -40,12 +42,12 @@ step_of (full x) l = next x l
 
 -- one request more: behind a bad one nothing is done
 abbrev pub onward : Run → ℕ → List ℕ → Run
-onward (run l Well) k d = judged k l (step_of (asked d) l)
-onward (run l (Bad j n)) k d = run l (Bad j n)
+onward (run l well) k d = judged k l (step_of (asked d) l)
+onward (run l (bad j n)) k d = run l (bad j n)
 
 -- after the first k requests; "empty at first"
 unfoldable pub after : List ℕ → ℕ → Run
-after p zero = run [] Well
+after p zero = run [] well
 after p (suc k) = onward (after p k) k (request_at p k)
 
 abbrev pub left_of : List ℕ → Run
@@ -58,15 +60,21 @@ wants w = length w / 3
 abbrev pub hidden_at : List Filter → List ℕ → ℕ → Bool
 hidden_at l w j = is_hidden l (get_or w (3 * j) 0) (get_or w (3 * j + 1) 0) (get_or w (3 * j + 2) 0)
 
-abbrev pub hidden_below : ℕ → ℕ → Verdict
-hidden_below n j = pick (ltb j n) (Hidden j) Yes
+-- what the check tells
+pub data Told : Type 0 where
+  told_yes : Told
+  told_bad : ℕ → ℕ → Told
+  told_hidden : ℕ → Told
 
-abbrev pub first_hidden : List Filter → List ℕ → Verdict
+abbrev pub hidden_below : ℕ → ℕ → Told
+hidden_below n j = pick (ltb j n) (told_hidden j) told_yes
+
+abbrev pub first_hidden : List Filter → List ℕ → Told
 first_hidden l w = hidden_below (wants w) (lowest (λ j. flag (hidden_at l w j)) (wants w))
 
-abbrev pub verdict : Run → List ℕ → Verdict
-verdict (run l Well) w = first_hidden l w
-verdict (run l (Bad k n)) w = verdict·Bad k n
+abbrev pub verdict : Run → List ℕ → Told
+verdict (run l well) w = first_hidden l w
+verdict (run l (bad k n)) w = told_bad k n
 
-unfoldable pub checked : List ℕ → List ℕ → Verdict
+unfoldable pub checked : List ℕ → List ℕ → Told
 checked p w = verdict (left_of p) w

@@ -7,14 +7,14 @@ use Rattle.refusal.specs.Test.{pick}
 use Rattle.refusal.specs.Answer.{refused, full}
 use Rattle.maps.specs.Bits.{bit_of_zero}
 use Rattle.filter_asked.specs.declared.Filter.{Filter}
-use Rattle.filter_asked.specs.Asked.{Change, add, is_named}
+use Rattle.filter_asked.specs.declared.Change.{Change}
+use Rattle.filter_asked.specs.declared.Change.TheVariants.{Add as add}
+use Rattle.filter_asked.specs.Asked.{is_named}
 use Rattle.filter_plan.specs.declared.Filters.{Filters}
-use Rattle.filter_plan.specs.declared.Step.TheVariants.{Good, Refused}
-use Rattle.filter_plan.specs.declared.Stepped.{Stepped}
 use Rattle.filter_plan.specs.Filters.{with_mask, added, without, cleared, changed, next, is_of, is_hidden}
-use Rattle.filter_plan.specs.Table.{none, table_of, list_of, IsTable, place_of, dropped, stepped}
+use Rattle.filter_plan.specs.Table.{none, table_of, list_of, IsTable, place_of, dropped}
 use Rattle.filter_plan.specs.Places.{entry_at, place_most, joined, lessened, added_there, added_absent, cleared_there, cleared_absent, mask_there, mask_absent}
-use Rattle.filter_plan.specs.Tables.{count_list, entry_list, table_set, table_more}
+use Rattle.filter_plan.specs.Tables.{list_back, table_is, count_list, entry_list, table_set, table_more}
 
 pub next_good : (x : Change) (l m : List Filter) → changed x l ≡ m → length m ≤ 64 → next x l ≡ full m
 unfolding next
@@ -24,9 +24,12 @@ pub next_full : (x : Change) (l m : List Filter) → changed x l ≡ m → 64 < 
 unfolding next
 next_full x l m e h = rw (e, lt-leb (length m) 64 h)
 
-pub good_step : (x : Change) (l m : List Filter) (t : Filters) → changed x l ≡ m → length m ≤ 64 → t ≡ table_of m
-    → ◌≡◌ {A = Stepped} (record { step = Good; filters = t }) (stepped l (next x l))
-good_step x l m t e h q = rw (next_good x l m e h, q)
+-- a good step: the table that it leaves, and what it says
+abbrev pub Steps : Change → List Filter → Filters → Type 0
+Steps x l t = IsTable t × (full (list_of t) ≡ next x l)
+
+pub good_step : (x : Change) (l m : List Filter) (t : Filters) → changed x l ≡ m → length m ≤ 64 → t ≡ table_of m → Steps x l t
+good_step x l m t e h q = rw q (table_is m h, ap full (list_back m) ∙ sym (next_good x l m e h))
 
 -- no entry more than there were
 pub cleared_length : (f : Filter) (l : List Filter) → length (cleared f l) ≤ length l
@@ -52,10 +55,7 @@ module _ (t : Filters) (is : IsTable t) (f : Filter) (k : ℕ) (p : k ≡ place_
   same : k < t.count → g ≡ entry_at l k
   same h = entry_list t is k h none
 
-  pub add_there : k < t.count
-      → ◌≡◌ {A = Stepped}
-      (record { step = Good; filters = record { entries = set t.entries k (with_mask g (bit_or g.mask f.mask)); count = t.count } })
-      (stepped l (next (add f) l))
+  pub add_there : k < t.count → Steps (add f) l (record { entries = set t.entries k (with_mask g (bit_or g.mask f.mask)); count = t.count })
   add_there h =
       let e : added f l ≡ set l k (joined f g) = added_there f l (omega (arith, p, count_list t is)) ∙ ap (λ (i : ℕ). set l i (joined f (entry_at l i))) (sym p) ∙ ap (λ (x : Filter). set l k (joined f x)) (sym (same h)) in
       good_step (add f) l (set l k (joined f g)) _ e (omega (arith, length-set l k (joined f g), is.0, count_list t is)) (table_set t is k (joined f g) h)
@@ -70,17 +70,14 @@ module _ (t : Filters) (is : IsTable t) (f : Filter) (k : ℕ) (p : k ≡ place_
   one_more_lem : t.count ≤ k → eqb f.mask 0 ≡ false → added f l ≡ l ++ f ∷ []
   one_more_lem h z = added_absent f l (omega (arith, p, count_list t is)) ∙ rw z
 
-  pub add_nothing : t.count ≤ k → eqb f.mask 0 ≡ true → ◌≡◌ {A = Stepped} (record { step = Good; filters = t }) (stepped l (next (add f) l))
-  add_nothing h z = good_step (add f) l l t (nothing_more h z) (omega (arith, is.0, count_list t is)) is.1
+  pub add_nothing : t.count ≤ k → eqb f.mask 0 ≡ true → full l ≡ next (add f) l
+  add_nothing h z = sym (next_good (add f) l l (nothing_more h z) (omega (arith, is.0, count_list t is)))
 
-  pub add_full : t.count ≤ k → eqb f.mask 0 ≡ false → 64 ≤ k → ◌≡◌ {A = Stepped} (record { step = Refused 19; filters = t }) (stepped l (next (add f) l))
-  add_full h z w = rw (next_full (add f) l (l ++ f ∷ []) (one_more_lem h z) (omega (arith, within, length-append l (f ∷ []), count_list t is))) (λ j. record { step = Refused 19; filters = is.1 j })
+  pub add_full : t.count ≤ k → eqb f.mask 0 ≡ false → t.count ≡ 64 → refused 19 ≡ next (add f) l
+  add_full h z w = sym (next_full (add f) l (l ++ f ∷ []) (one_more_lem h z) (omega (arith, length-append l (f ∷ []), count_list t is)))
 
-  pub add_made : t.count ≤ k → eqb f.mask 0 ≡ false → k < 64
-      → ◌≡◌ {A = Stepped} (record { step = Good; filters = record { entries = set t.entries k f; count = k + 1 } }) (stepped l (next (add f) l))
-  add_made h z w =
-      let q : t.count ≡ k = omega (arith, within) in
-      good_step (add f) l (l ++ f ∷ []) _ (one_more_lem h z) (omega (arith, length-append l (f ∷ []), count_list t is)) (rw (← q) (table_more t is f (omega arith)))
+  pub add_made : t.count ≤ k → eqb f.mask 0 ≡ false → t.count < 64 → Steps (add f) l (record { entries = set t.entries t.count f; count = t.count + 1 })
+  add_made h z w = good_step (add f) l (l ++ f ∷ []) _ (one_more_lem h z) (omega (arith, length-append l (f ∷ []), count_list t is)) (table_more t is f w)
 
   pub clear_absent : t.count ≤ k → t ≡ table_of (cleared f l)
   clear_absent h = is.1 ∙ ap table_of (sym (cleared_absent f l (omega (arith, p, count_list t is))))

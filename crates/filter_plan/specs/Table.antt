@@ -1,14 +1,10 @@
 -- The filters as the code has them: 64 places, of which the first hold them and the others hold none.
 use Rattle.std.specs.Prelude.{ℕ, zero, suc, ◌-◌, ◌≤◌, ◌≡◌, List, [], ◌∷◌, ◌++◌, length, take, replicate}
 use Rattle.refusal.specs.Test.{pick}
-use Rattle.refusal.specs.Answer.{Answer, refused, full}
 use Rattle.filter_asked.specs.declared.Filter.{Filter}
 use Rattle.filter_plan.specs.declared.Filters.{Filters}
-use Rattle.filter_plan.specs.declared.Left.{Left}
-use Rattle.filter_plan.specs.declared.Step.TheVariants.{Good, Refused}
-use Rattle.filter_plan.specs.declared.Stepped.{Stepped}
 use Rattle.filter_plan.specs.Filters.{is_of}
-use Rattle.filter_plan.specs.Plan.{Run, run}
+use Rattle.filter_plan.specs.Plan.{Went, Run, run}
 
 abbrev pub none : Filter
 none = record { address = 0; instance = 0; mask = 0 }
@@ -16,8 +12,8 @@ none = record { address = 0; instance = 0; mask = 0 }
 abbrev pub table_of : List Filter → Filters
 table_of l = record { entries = l ++ replicate (64 - length l) none; count = length l }
 
-abbrev pub left_by : Run → Left
-left_by (run l w) = record { went = w; filters = table_of l }
+abbrev pub left_by : Run → Went × Filters
+left_by (run l w) = (w, table_of l)
 
 -- what the functions inside keep: such a table is of its own list
 abbrev pub list_of : Filters → List Filter
@@ -36,8 +32,3 @@ unfoldable pub dropped : ℕ → List Filter → List Filter
 dropped k [] = []
 dropped zero (g ∷ l) = l
 dropped (suc k) (g ∷ l) = g ∷ dropped k l
-
--- a step answered: the filters after it, those before it where it is refused
-abbrev pub stepped : List Filter → Answer (List Filter) → Stepped
-stepped l (refused n) = record { step = Refused n; filters = table_of l }
-stepped l (full m) = record { step = Good; filters = table_of m }

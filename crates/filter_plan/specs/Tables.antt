@@ -1,12 +1,10 @@
 -- A table's list, and what a store into a table makes of it.
-use Rattle.std.specs.Prelude.{ℕ, suc, ◌+◌, ◌-◌, ◌≤◌, ◌<◌, ◌≡◌, refl, true, false, List, [], ◌∷◌, ◌++◌, length, get_or, set, replicate}
+use Rattle.std.specs.Prelude.{ℕ, suc, ◌+◌, ◌-◌, ◌≤◌, ◌<◌, ◌≡◌, refl, List, [], ◌∷◌, ◌++◌, length, get_or, set, replicate}
 use Rattle.std.proofs.Common.{sym, ap, ◌∙◌, append_assoc, length-append, length-set, get_or-take, take_at, arith}
 use Rattle.std.proofs.lemmas.List.{length-replicate, set-append_left, set_at}
 use Rattle.filter_asked.specs.declared.Filter.{Filter}
 use Rattle.filter_plan.specs.declared.Filters.{Filters}
-use Rattle.filter_plan.specs.Filters.{is_of}
-use Rattle.filter_plan.specs.Table.{none, table_of, list_of, IsTable, place_of}
-use Rattle.filter_plan.specs.Places.{Passed, place_here, place_on, place_end}
+use Rattle.filter_plan.specs.Table.{none, table_of, list_of, IsTable}
 
 -- a list as a table, and back
 pub list_back : (l : List Filter) → list_of (table_of l) ≡ l
@@ -28,16 +26,6 @@ module _ (t : Filters) (is : IsTable t) where
   -- an entry, as the table and as the list has it
   pub entry_list : (k : ℕ) → k < t.count → (d : Filter) → get_or t.entries k d ≡ get_or (list_of t) k d
   entry_list k h d = sym (get_or-take t.count t.entries k d h)
-
-  module _ (a i k : ℕ) where
-    pub found : k < t.count → is_of a i (get_or t.entries k none) ≡ true → Passed a i (list_of t) k → k ≡ place_of a i (list_of t)
-    found h e p = place_here a i (list_of t) k (omega (arith, count_list)) (ap (is_of a i) (sym (entry_list k h none)) ∙ e) p
-
-    pub passed : k < t.count → is_of a i (get_or t.entries k none) ≡ false → Passed a i (list_of t) k → Passed a i (list_of t) (suc k)
-    passed h e p = place_on a i (list_of t) k (omega (arith, count_list)) (ap (is_of a i) (sym (entry_list k h none)) ∙ e) p
-
-    pub absent : t.count ≤ k → Passed a i (list_of t) k → k ≡ place_of a i (list_of t)
-    absent h p = place_end a i (list_of t) k (omega (arith, count_list)) p
 
   -- an entry stored over one that is there, and behind the last
   pub table_set : (k : ℕ) (g : Filter) → k < t.count → ◌≡◌ {A = Filters} (record { entries = set t.entries k g; count = t.count }) (table_of (set (list_of t) k g))

@@ -3,13 +3,17 @@
 // refusals 1 to 7, 18 and 19.
 #![tactic(auto)]
 
-ghost use Rattle.std.specs.Prelude.{◌≤◌, ◌<◌, ◌≡◌, [], length, take, drop};
-ghost use Rattle.filter_asked.specs.Asked.{add as adding, said_asked, asked};
+ghost use Rattle.std.specs.Prelude.{◌<◌, ◌≡◌, [], length, unwrap_or, IfSome, OnErr};
+ghost use Rattle.refusal.specs.Answer.{said_of};
+ghost use Rattle.filter_asked.specs.declared.Change.TheVariants.{Add as adding};
+ghost use Rattle.filter_asked.specs.Asked.{asked};
 ghost use Rattle.filter_plan.specs.Filters.{cleared, next as next_of, is_hidden};
 ghost use Rattle.filter_plan.specs.Plan.{left_of, step_of, checked, first_hidden};
-ghost use Rattle.filter_plan.specs.Table.{table_of, left_by, list_of, IsTable, place_of, dropped, stepped};
+ghost use Rattle.filter_plan.specs.Table.{table_of, left_by, list_of, IsTable, place_of, dropped};
+ghost use Rattle.filter_plan.specs.Said.{said_left, said_verdict};
 
-use filter_asked::{Asked, Filter};
+use filter_asked::{Change, Filter};
+use refusal::Refusal;
 
 // "at most 64 entries"
 pub const MOST: usize = 64;
@@ -34,245 +38,156 @@ pub struct Filters {
     pub count: usize,
 }
 
-// Whether every request of a plan is good; else the first that is bad, by its place among the requests, from 0, and its refusal.
-#[derive(Drop)]
-pub enum Went {
-    Well,
-    Bad { request: usize, number: u8 },
+// The first bad request of a plan, by its place among the requests, from 0, and its refusal.
+#[derive(Clone, Copy, Debug, PartialEq, Eq)]
+pub struct Bad {
+    pub request: usize,
+    pub refusal: Refusal,
 }
 
-// The filters that a plan leaves; where a request is bad, those that stood before it.
-#[derive(Drop)]
+// The filters that a plan leaves; where a request is bad, that and the filters that stood before it.
+#[derive(Clone, Copy)]
 pub struct Left {
-    pub went: Went,
+    pub went: Result<(), Bad>,
     pub filters: Filters,
 }
 
 // What the check answers: yes; the first bad request; or else the first wanted event that is hidden, by its place, from 0.
-#[derive(Drop)]
+#[derive(Clone, Copy, Debug, PartialEq, Eq)]
 pub enum Verdict {
     Yes,
-    Bad { request: usize, number: u8 },
+    Bad(Bad),
     Hidden(usize),
 }
 
-// What one request makes of the filters: whether it is good.
-#[derive(Drop)]
-enum Step {
-    Good,
-    Refused(u8),
-}
-
-#[derive(Drop)]
-struct Stepped {
-    step: Step,
-    filters: Filters,
-}
-
-// The place of the entry of an address and an instance; where there is none, the place behind the last.
-fn place(t: Filters, address: u8, instance: u8) -> usize
-    requires { IsTable t }
-    ensures { result ≡ place_of address instance (list_of t) }
+// The place of the entry of an address and an instance.
+fn place(t: &Filters, address: u8, instance: u8) -> Option<usize>
+    requires { IsTable t.now }
+    ensures told { unwrap_or result t.now.count ≡ place_of address instance (list_of t.now) }
+    ensures within { IfSome result (λ k. k < t.now.count) }
 {
-    let mut i: usize = 0;
-    while i < t.count {
-        let f = t.entries[i];
-        if (f.address == address) & (f.instance == instance) {
-            return i;
-        }
-        i += 1;
-    }
-    i
+    t.entries[..t.count]
+        .iter()
+        .position(|f| f.address == address && f.instance == instance)
 }
 
 // Joins a mask to its entry, or makes one behind the others; 19 where there is no room for one.
-fn add(from: Filters, f: Filter) -> Stepped
-    requires { IsTable from }
-    ensures { result ≡ stepped (list_of from) (next_of (adding f) (list_of from)) }
+fn add(t: &mut Filters, f: Filter) -> Result<(), Refusal>
+    requires { IsTable t.old }
+    ensures table { IsTable t.new }
+    ensures step { said_of (λ _. list_of t.new) result ≡ next_of (adding f) (list_of t.old) }
+    ensures kept { OnErr result (t.new ≡ t.old) }
 {
-    let mut t = from;
-    let k = place(t, f.address, f.instance);
-    if k < t.count {
-        let g = t.entries[k];
-        t.entries[k] = Filter {
-            address: g.address,
-            instance: g.instance,
-            mask: g.mask | f.mask,
-        };
-        return Stepped {
-            step: Step::Good,
-            filters: t,
-        };
+    if let Some(k) = place(t, f.address, f.instance) {
+        t.entries[k].mask |= f.mask;
+        return Ok(());
     }
     if f.mask == 0 {
-        return Stepped {
-            step: Step::Good,
-            filters: t,
-        };
+        return Ok(());
     }
-    if MOST <= k {
-        return Stepped {
-            step: Step::Refused(19),
-            filters: t,
-        };
+    if t.count == MOST {
+        return Err(Refusal::FiltersFull);
     }
-    t.entries[k] = f;
-    t.count = k + 1;
-    Stepped {
-        step: Step::Good,
-        filters: t,
-    }
+    t.entries[t.count] = f;
+    t.count += 1;
+    Ok(())
 }
 
 // Drops the entry at a place: those behind it move up.
-fn drop(from: Filters, k: usize) -> Filters
-    requires { IsTable from × (k < from.count) }
-    ensures { result ≡ table_of (dropped k (list_of from)) }
+fn drop(t: &mut Filters, k: usize)
+    requires { IsTable t.old × (k < t.old.count) }
+    ensures { t.new ≡ table_of (dropped k (list_of t.old)) }
 {
-    let mut t = from;
-    let last = t.count - 1;
-    let mut i = k;
-    while i < last {
-        t.entries[i] = t.entries[i + 1];
-        i += 1;
-    }
-    t.entries[last] = NONE;
-    t.count = last;
-    t
+    t.entries.copy_within(k + 1..t.count, k);
+    t.count -= 1;
+    t.entries[t.count] = NONE;
 }
 
 // Takes the bits of a mask out of its entry, and drops an entry that has none left.
-fn clear(from: Filters, f: Filter) -> Filters
-    requires { IsTable from }
-    ensures { result ≡ table_of (cleared f (list_of from)) }
+fn clear(t: &mut Filters, f: Filter)
+    requires { IsTable t.old }
+    ensures { t.new ≡ table_of (cleared f (list_of t.old)) }
 {
-    let mut t = from;
-    let k = place(t, f.address, f.instance);
-    if t.count <= k {
-        return t;
-    }
-    let g = t.entries[k];
-    let mask = g.mask & !f.mask;
-    if mask == 0 {
-        return drop(t, k);
-    }
-    t.entries[k] = Filter {
-        address: g.address,
-        instance: g.instance,
-        mask,
+    let Some(k) = place(t, f.address, f.instance) else {
+        return;
     };
-    t
-}
-
-// One request more.
-fn next(from: Filters, a: Asked) -> Stepped
-    requires { IsTable from }
-    ensures { result ≡ stepped (list_of from) (step_of (said_asked a) (list_of from)) }
-{
-    match a {
-        Asked::Refused(n) => Stepped {
-            step: Step::Refused(n),
-            filters: from,
-        },
-        Asked::Clear(f) => Stepped {
-            step: Step::Good,
-            filters: clear(from, f),
-        },
-        Asked::Add(f) => add(from, f),
+    let mask = t.entries[k].mask & !f.mask;
+    if mask == 0 {
+        drop(t, k);
+    } else {
+        t.entries[k].mask = mask;
     }
 }
 
-// No filters.
-fn nothing() -> Filters
-    ensures { result ≡ table_of [] }
+// One request more: whether it is good.
+fn next(t: &mut Filters, request: &[u8]) -> Result<(), Refusal>
+    requires { IsTable t.old }
+    ensures table { IsTable t.new }
+    ensures step { said_of (λ _. list_of t.new) result ≡ step_of (asked request.now) (list_of t.old) }
+    ensures kept { OnErr result (t.new ≡ t.old) }
 {
-    Filters {
-        entries: [NONE; MOST],
-        count: 0,
+    match filter_asked::read(request)? {
+        Change::Add(f) => add(t, f),
+        Change::Clear(f) => {
+            clear(t, f);
+            Ok(())
+        }
     }
-}
-
-// What the request at a place of a plan asks: its 8 bytes, or those that are left.
-fn asked_at(plan: &[u8], at: usize) -> Asked
-    requires { at ≤ length plan.now }
-    ensures { said_asked result ≡ asked (take 8 (drop at plan.now)) }
-{
-    if plan.len() - at < REQUEST {
-        return filter_asked::read(&plan[at..]);
-    }
-    filter_asked::read(&plan[at..at + REQUEST])
 }
 
 // The filters that a plan leaves, or the first bad request and those that stood before it.
 pub fn leaves(plan: &[u8]) -> Left
-    ensures { result ≡ left_by (left_of plan.now) }
+    ensures { said_left result ≡ left_by (left_of plan.now) }
 {
-    let mut filters = nothing();
-    let mut at: usize = 0;
-    while at < plan.len() {
-        let n = next(filters, asked_at(plan, at));
-        filters = n.filters;
-        let step = n.step;
-        match step {
-            Step::Refused(number) => {
-                return Left {
-                    went: Went::Bad {
-                        request: at / REQUEST,
-                        number,
-                    },
-                    filters,
-                };
-            }
-            Step::Good => at += REQUEST,
+    let mut filters = Filters {
+        entries: [NONE; MOST],
+        count: 0,
+    };
+    for (request, s) in plan.chunks(REQUEST).enumerate() {
+        if let Err(refusal) = next(&mut filters, s) {
+            return Left {
+                went: Err(Bad { request, refusal }),
+                filters,
+            };
         }
     }
     Left {
-        went: Went::Well,
+        went: Ok(()),
         filters,
     }
 }
 
 // Whether an event is hidden.
-fn hides(t: Filters, address: u8, instance: u8, kind: u8) -> bool
-    requires { IsTable t }
-    ensures { result ≡ is_hidden (list_of t) address instance kind }
+fn hides(t: &Filters, address: u8, instance: u8, kind: u8) -> bool
+    requires { IsTable t.now }
+    ensures { result ≡ is_hidden (list_of t.now) address instance kind }
 {
-    let k = place(t, address, instance);
-    if t.count <= k {
-        return false;
+    match place(t, address, instance) {
+        Some(k) => filter_asked::names(t.entries[k].mask, kind),
+        None => false,
     }
-    let f = t.entries[k];
-    filter_asked::names(f.mask, kind)
 }
 
 // The first wanted event that is hidden.
-fn first_hidden(t: Filters, wanted: &[u8]) -> Verdict
-    requires { IsTable t }
-    ensures { result ≡ first_hidden (list_of t) wanted.now }
+fn first_hidden(t: &Filters, wanted: &[u8]) -> Verdict
+    requires { IsTable t.now }
+    ensures { said_verdict result ≡ first_hidden (list_of t.now) wanted.now }
 {
-    let n = wanted.len() / EVENT;
-    let mut j: usize = 0;
-    while j < n {
-        let at = EVENT * j;
-        if hides(t, wanted[at], wanted[at + 1], wanted[at + 2]) {
+    for (j, e) in wanted.chunks_exact(EVENT).enumerate() {
+        if hides(t, e[0], e[1], e[2]) {
             return Verdict::Hidden(j);
         }
-        j += 1;
     }
     Verdict::Yes
 }
 
 // Checks a plan against the events that are wanted.
 pub fn check(plan: &[u8], wanted: &[u8]) -> Verdict
-    ensures { result ≡ checked plan.now wanted.now }
+    ensures { said_verdict result ≡ checked plan.now wanted.now }
 {
     let left = leaves(plan);
-    let went = left.went;
-    match went {
-        Went::Bad { request, number } => Verdict::Bad { request, number },
-        Went::Well => {
-            let filters = left.filters;
-            first_hidden(filters, wanted)
-        }
+    match left.went {
+        Ok(()) => first_hidden(&left.filters, wanted),
+        Err(bad) => Verdict::Bad(bad),
     }
 }

@@ -3,57 +3,38 @@
 #![tactic(auto)]
 
 ghost use Rattle.std.specs.Prelude.{◌+◌, ◌≡◌};
-ghost use Rattle.filter_asked.specs.Asked.{said_asked};
+ghost use Rattle.refusal.specs.Answer.{said};
 ghost use Rattle.filter_plan.specs.Plan.{request_at};
 ghost use Rattle.filter_since.specs.Trace.{concerns as concerned, traced, since_of};
 ghost use Rattle.filter_since.specs.Parts.{request_start, event_at};
 
-use filter_asked::{Asked, Filter};
+use filter_asked::{Change, Filter};
 use filter_plan::{EVENT, REQUEST};
-
-// The first request from which on an event is hidden to the end of a plan, or that it is not.
-#[derive(Drop)]
-pub enum Since {
-    Request(usize),
-    Never,
-}
+use refusal::Refusal;
 
 // A wanted event.
-#[derive(Drop)]
+#[derive(Clone, Copy)]
 pub struct Event {
     pub address: u8,
     pub instance: u8,
     pub kind: u8,
 }
 
-// Whether a filter names a type of an address and an instance.
-fn concerns(f: Filter, address: u8, instance: u8, kind: u8) -> bool
-    ensures { result ≡ concerned address instance kind f }
+// Whether a filter names an event.
+fn concerns(f: Filter, e: Event) -> bool
+    ensures { result ≡ concerned e.address e.instance e.kind f }
 {
-    (f.address == address) & (f.instance == instance) & filter_asked::names(f.mask, kind)
+    f.address == e.address && f.instance == e.instance && filter_asked::names(f.mask, e.kind)
 }
 
 // Since which request an event is hidden, after one request more.
-fn trace(s: Since, k: usize, a: Asked, address: u8, instance: u8, kind: u8) -> Since
-    ensures { result ≡ traced address instance kind k (said_asked a) s }
+fn trace(since: Option<usize>, k: usize, asked: Result<Change, Refusal>, e: Event) -> Option<usize>
+    ensures { result ≡ traced e.address e.instance e.kind k (said asked) since }
 {
-    match a {
-        Asked::Refused(_) => s,
-        Asked::Clear(f) => {
-            if concerns(f, address, instance, kind) {
-                return Since::Never;
-            }
-            s
-        }
-        Asked::Add(f) => {
-            if !concerns(f, address, instance, kind) {
-                return s;
-            }
-            match s {
-                Since::Never => Since::Request(k),
-                Since::Request(j) => Since::Request(j),
-            }
-        }
+    match asked {
+        Ok(Change::Add(f)) if concerns(f, e) => since.or(Some(k)),
+        Ok(Change::Clear(f)) if concerns(f, e) => None,
+        _ => since,
     }
 }
 
@@ -68,32 +49,24 @@ pub fn request_at(plan: &[u8], k: usize) -> &[u8]
         return &plan[n..];
     }
     let at = REQUEST * k;
-    if n - at < REQUEST {
-        return &plan[at..];
-    }
-    &plan[at..at + REQUEST]
+    &plan[at..at + REQUEST.min(n - at)]
 }
 
 // Since which request of a plan an event is hidden to its end. It is asked of good plans: requests that are refused with 1 to 7 or 18 are passed over,
 // and whether there is room for a filter is not judged.
-pub fn hidden_since(plan: &[u8], address: u8, instance: u8, kind: u8) -> Since
+pub fn hidden_since(plan: &[u8], address: u8, instance: u8, kind: u8) -> Option<usize>
     ensures { result ≡ since_of plan.now address instance kind }
 {
-    let mut s = Since::Never;
-    let mut at: usize = 0;
-    while at < plan.len() {
-        let k = at / REQUEST;
-        s = trace(
-            s,
-            k,
-            filter_asked::read(request_at(plan, k)),
-            address,
-            instance,
-            kind,
-        );
-        at += REQUEST;
+    let event = Event {
+        address,
+        instance,
+        kind,
+    };
+    let mut since = None;
+    for (k, request) in plan.chunks(REQUEST).enumerate() {
+        since = trace(since, k, filter_asked::read(request), event);
     }
-    s
+    since
 }
 
 // A wanted event, by its place; behind the last, zeros.

@@ -9,14 +9,11 @@ ghost use Rattle.filter_text.specs.Told.{start_of, placed_texts, instance_texts,
 
 use filter_asked::Filter;
 
-// The greatest number of 64 bits.
-const MOST: u64 = 18446744073709551615;
-
 // Where a request begins. A place is counted in 64 bits: one that is full stays so.
 fn start(k: u64) -> u64
     ensures { result ≡ start_of k }
 {
-    if MOST / 8 < k { MOST } else { 8 * k }
+    k.saturating_mul(8)
 }
 
 // Puts which request, where it begins, and its bytes.
@@ -70,13 +67,11 @@ fn types(out: &mut [u8], at: usize, mask: u16) -> usize
 {
     let mut e = at;
     let mut some = false;
-    let mut t: u8 = 0;
-    while t < 16 {
+    for t in 0..16 {
         if filter_asked::names(mask, t) {
             e = next(out, e, some, t);
             some = true;
         }
-        t += 1;
     }
     e
 }
@@ -87,10 +82,9 @@ pub fn filter(out: &mut [u8], at: usize, f: Filter) -> usize
 {
     let a = of_instance(out, at, f.address, f.instance);
     let b = lent::word(out, a, b", mask ");
-    let c = text::hex(out, b, (f.mask / 256) as u8);
-    let d = text::hex(out, c, (f.mask % 256) as u8);
-    let e = lent::word(out, d, b", types ");
-    types(out, e, f.mask)
+    let c = text::hexes(out, b, &f.mask.to_be_bytes());
+    let d = lent::word(out, c, b", types ");
+    types(out, d, f.mask)
 }
 
 // Puts the line of a filter.
@@ -108,7 +102,7 @@ pub fn exchange(f: Filter) -> Filter
     Filter {
         address: f.address,
         instance: f.instance,
-        mask: f.mask % 256 * 256 + f.mask / 256,
+        mask: f.mask.swap_bytes(),
     }
 }
 

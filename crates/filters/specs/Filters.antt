@@ -1,23 +1,10 @@
 -- Document 01, "Four orders in reply data": "Filters (to 32): a mode byte, then k entries of address, instance, mask high, mask
 -- low; k is 0 to 15."
 use Rattle.std.specs.Prelude.{ℕ, ◌+◌, ◌*◌, ◌/◌, List, [], ◌∷◌, leb, ltb, eqb, length, get_or}
-use Rattle.refusal.specs.Answer.{Answer, refused, full, demand}
+use Rattle.refusal.specs.Answer.{Answer, full, demand}
 use Rattle.order.specs.Order.{high_first, number_in}
-use Rattle.filters.specs.declared.Filters as filters
+use Rattle.filters.specs.declared.Filters.{Filters}
 use Rattle.filters.specs.declared.Filter.{Filter}
-use Rattle.filters.specs.declared.Listed.{Listed}
-use Rattle.filters.specs.declared.Listed.TheVariants.{Filters, Refused as listed·Refused}
-use Rattle.filters.specs.declared.Found.{Found}
-use Rattle.filters.specs.declared.Found.TheVariants.{Entry, Refused as found·Refused}
-
--- document 01's number and values for each case of an answer
-abbrev pub said_filters : Listed → Answer filters.Filters
-said_filters (listed·Refused k) = refused k
-said_filters (Filters f) = full f
-
-abbrev pub said_entry : Found → Answer Filter
-said_entry (found·Refused k) = refused k
-said_entry (Entry e) = full e
 
 -- the bytes of an entry, and the most entries
 abbrev pub entry_size : ℕ
@@ -35,7 +22,7 @@ abbrev pub sized : {A : Type 0} → List ℕ → Answer A → Answer A
 sized s x = demand (eqb (length s) (1 + entry_size * count_in s)) 11 (demand (leb (count_in s) entries_most) 11 x)
 
 -- the mode and k
-abbrev pub filters_of : List ℕ → Answer filters.Filters
+abbrev pub filters_of : List ℕ → Answer Filters
 filters_of s = sized s (full (record { mode = get_or s 0 0; entries = count_in s }))
 
 -- the four bytes from a place on

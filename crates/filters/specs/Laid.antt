@@ -3,7 +3,6 @@ use Rattle.std.specs.Prelude.{ℕ, ◌+◌, ◌*◌, ◌/◌, ◌%◌, ◌≤◌
 use Rattle.std.proofs.Common.{ap, ◌∙◌, length-append, get_or-append-add, eq-eqb, le-leb, lt-ltb, eqb-true, leb-true, add-zero, arith}
 use Rattle.refusal.specs.Answer.{Answer, full, demand_elim}
 use Rattle.order.specs.Order.{high_first, number_in, number_by}
-use Rattle.filters.specs.declared.Filters as filters
 use Rattle.filters.specs.declared.Filter.{Filter}
 use Rattle.filters.specs.Filters.{count_in, sized, filters_of, entry_of}
 

@@ -4,7 +4,10 @@
 #![tactic(auto)]
 
 ghost use Rattle.std.specs.Prelude.{◌≡◌};
-ghost use Rattle.filters.specs.Filters.{said_filters, said_entry, filters_of, entry_of};
+ghost use Rattle.refusal.specs.Answer.{said};
+ghost use Rattle.filters.specs.Filters.{filters_of, entry_of};
+
+use refusal::Refusal;
 
 // "k entries of address, instance, mask high, mask low": the bytes of an entry. They stand behind the mode byte.
 const ENTRY: usize = 4;
@@ -13,72 +16,45 @@ const ENTRY: usize = 4;
 const MOST: usize = 15;
 
 // The mode byte, and how many entries follow it.
-#[derive(Drop)]
+#[derive(Clone, Copy, Debug, PartialEq, Eq)]
 pub struct Filters {
     pub mode: u8,
     pub entries: usize,
 }
 
 // An entry: the event types that the mask names, of this address and instance.
-#[derive(Drop)]
+#[derive(Clone, Copy, Debug, PartialEq, Eq)]
 pub struct Filter {
     pub address: u8,
     pub instance: u8,
     pub mask: u16,
 }
 
-// The filters of a reply, or the number of the refusal.
-#[derive(Drop)]
-pub enum Listed {
-    Filters(Filters),
-    Refused(u8),
-}
-
-// One entry, or the number of the refusal.
-#[derive(Drop)]
-pub enum Found {
-    Entry(Filter),
-    Refused(u8),
-}
-
 // The mode and the number of entries; 11 where the size is not 1 + 4k with k at most 15.
-pub fn read(s: &[u8]) -> Listed
-    ensures { said_filters result ≡ filters_of s.now }
+pub fn read(s: &[u8]) -> Result<Filters, Refusal>
+    ensures { said result ≡ filters_of s.now }
 {
     let entries = s.len() / ENTRY;
-    let size = 1 + ENTRY * entries;
-    if s.len() != size {
-        return Listed::Refused(11);
+    if s.len() != 1 + ENTRY * entries || MOST < entries {
+        return Err(Refusal::BadDataSize);
     }
-    if MOST < entries {
-        return Listed::Refused(11);
-    }
-    let mode = s[0];
-    Listed::Filters(Filters { mode, entries })
+    Ok(Filters {
+        mode: s[0],
+        entries,
+    })
 }
 
 // Entry i, counted from 0; 11 as for the whole, and 12 where there are not so many.
-pub fn entry(s: &[u8], i: usize) -> Found
-    ensures { said_entry result ≡ entry_of s.now i }
+pub fn entry(s: &[u8], i: usize) -> Result<Filter, Refusal>
+    ensures { said result ≡ entry_of s.now i }
 {
-    let r = read(s);
-    match r {
-        Listed::Filters(f) => {
-            if f.entries <= i {
-                return Found::Refused(12);
-            }
-            let at = 1 + ENTRY * i;
-            let address = s[at];
-            let instance = s[at + 1];
-            let high = s[at + 2];
-            let low = s[at + 3];
-            let mask = order::high_first(high, low);
-            Found::Entry(Filter {
-                address,
-                instance,
-                mask,
-            })
-        }
-        Listed::Refused(k) => Found::Refused(k),
+    if read(s)?.entries <= i {
+        return Err(Refusal::NoneThere);
     }
+    let at = 1 + ENTRY * i;
+    Ok(Filter {
+        address: s[at],
+        instance: s[at + 1],
+        mask: order::high_first(s[at + 2], s[at + 3]),
+    })
 }

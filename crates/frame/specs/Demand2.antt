@@ -1,14 +1,13 @@
 -- Demand 2, for any family of frames: "A datagram is accepted exactly when it is a frame by the published layouts, the exclusive-or
 -- rule and document 01's ranges. Reading a written frame gives its fields back; writing a frame that was read gives its bytes back,
 -- where the buffer is long enough."
-use Rattle.std.specs.Prelude.{ℕ, ◌≤◌, ◌≡◌, List, ◌++◌, length, drop}
+use Rattle.std.specs.Prelude.{ℕ, Result, Ok, ◌≤◌, ◌≡◌, List, ◌++◌, length, drop}
 use Rattle.std.proofs.Common.{sym, ap, ◌∙◌}
+use Rattle.refusal.specs.declared.Refusal.{Refusal}
 use Rattle.refusal.specs.Answer.{Answer, full, full_one}
 use Rattle.sum.specs.Bytes.{Bytes}
 use Rattle.sum.specs.Sum.{sum_of}
 use Rattle.frame.specs.Written.{Written, written_whole}
-use Rattle.frame.specs.declared.Wrote.{Wrote}
-use Rattle.frame.specs.declared.Wrote.TheVariants.{Count}
 
 -- A family: its fields, which of them are in document 01's ranges, and the layout of their frame with its sum; what reading a datagram
 -- answers, and the fields that a reading gives; which fields may be written, and the frame that the writer is to write for some
@@ -38,8 +37,8 @@ module _ {Fields Reading : Type 0} (InRange : Fields → Type 0) (layout : Field
     pub written_read : (d : List ℕ) (r : Reading) → Bytes d → read d ≡ full r → MayWrite (fields_of r d) → frame_of (fields_of r d) ≡ full d
     -- "where the buffer is long enough": the answer is its length, and what lies behind it stays
     pub written_again : (d : List ℕ) (r : Reading) → Bytes d → read d ≡ full r → MayWrite (fields_of r d)
-        → (out out' : List ℕ) (w : Wrote) → length d ≤ length out → Written (frame_of (fields_of r d)) out w out'
-        → (w ≡ Count (length d)) × (out' ≡ d ++ drop (length d) out)
+        → (out out' : List ℕ) (w : Result ℕ Refusal) → length d ≤ length out → Written (frame_of (fields_of r d)) out w out'
+        → (w ≡ Ok (length d)) × (out' ≡ d ++ drop (length d) out)
 
   -- what a family owes for it: each half by itself
   module _ (accepted_frame : (d : List ℕ) (r : Reading) → Bytes d → read d ≡ full r → InRange (fields_of r d) × (d ≡ layout (fields_of r d)))

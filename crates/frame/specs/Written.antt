@@ -1,20 +1,16 @@
 -- Document 01, "Refusals, by number": "no lent byte and no state changes. A writer returns the count written; bytes after the frame stay."
-use Rattle.std.specs.Prelude.{ℕ, ◌+◌, ◌≤◌, ◌<◌, ◌≡◌, List, ◌++◌, length, take, drop, set, true, false, leb}
+use Rattle.std.specs.Prelude.{ℕ, Result, Ok, Err, ◌+◌, ◌≤◌, ◌<◌, ◌≡◌, List, ◌++◌, length, take, drop, set, true, false, leb}
 use Rattle.std.proofs.Common.{sym, ap, ◌∙◌, length-append, take_at, le-leb, zero-add, arith}
 use Rattle.std.proofs.lemmas.Bool.{lt-leb}
 use Rattle.sum.specs.Sum.{sum_of}
 use Rattle.lent.specs.Puts.{Puts}
 use Rattle.lent.specs.Over.{puts_room, puts_length, puts_then, puts_byte}
 use Rattle.refusal.specs.Test.{pick}
-use Rattle.refusal.specs.Answer.{Answer, refused, full, demand, determined}
+use Rattle.refusal.specs.Refusals.{number_of}
+use Rattle.refusal.specs.Answer.{Answer, refused, full, demand, determined, said, said_one}
+use Rattle.refusal.specs.declared.Refusal.{Refusal}
+use Rattle.refusal.specs.declared.Refusal.TheVariants.{NoRoom}
 use Rattle.frame.specs.Frame.{sealed, sealed_length}
-use Rattle.frame.specs.declared.Wrote.{Wrote}
-use Rattle.frame.specs.declared.Wrote.TheVariants.{Count, Refused}
-
--- document 01's number and values for each case of a writer's answer
-abbrev pub said : Wrote → Answer ℕ
-said (Refused k) = refused k
-said (Count n) = full n
 
 -- what a writer says that is to write a frame, or to refuse: 8 is its last refusal
 abbrev pub wrote : Answer (List ℕ) → List ℕ → Answer ℕ
@@ -27,35 +23,29 @@ after (refused k) out = out
 after (full f) out = pick (leb (length f) (length out)) (f ++ drop (length f) out) out
 
 -- the contract of every writer: v is the frame that it is to write, or the refusal that it is to give
-pub record Written (v : Answer (List ℕ)) (out : List ℕ) (r : Wrote) (out' : List ℕ) : Type 0 where
+pub record Written (v : Answer (List ℕ)) (out : List ℕ) (r : Result ℕ Refusal) (out' : List ℕ) : Type 0 where
   pub says : said r ≡ wrote v out
   pub leaves : out' ≡ after v out
 
 -- it leaves no choice
-pub said_one : (x y : Wrote) → said x ≡ said y → x ≡ y
-said_one (Refused j) (Refused k) e = cc
-said_one (Refused j) (Count n) e = cc
-said_one (Count m) (Refused k) e = cc
-said_one (Count m) (Count n) e = cc
-
-pub written_one : {v : Answer (List ℕ)} {out p q : List ℕ} {r s : Wrote} → Written v out r p → Written v out s q → (r ≡ s) × (p ≡ q)
+pub written_one : {v : Answer (List ℕ)} {out p q : List ℕ} {r s : Result ℕ Refusal} → Written v out r p → Written v out s q → (r ≡ s) × (p ≡ q)
 written_one {v} {out} {p} {q} {r} {s} a b = (determined said said_one r s a.says b.says, a.leaves ∙ sym b.leaves)
 
 -- a refusal, and a frame that another writer is asked to write
-pub refuses : {v : Answer (List ℕ)} {k : ℕ} (out : List ℕ) → v ≡ refused k → Written v out (Refused k) out
+pub refuses : {v : Answer (List ℕ)} {k : Refusal} (out : List ℕ) → v ≡ refused (number_of k) → Written v out (Err k) out
 refuses out e = record { says = rw e; leaves = rw e }
 
-pub passes : {v : Answer (List ℕ)} {f out p : List ℕ} {r : Wrote} → v ≡ full f → Written (full f) out r p → Written v out r p
+pub passes : {v : Answer (List ℕ)} {f out p : List ℕ} {r : Result ℕ Refusal} → v ≡ full f → Written (full f) out r p → Written v out r p
 passes e w = rw e w
 
 -- where the buffer is long enough, the frame is written whole, and what lies behind it stays
-pub written_whole : {f out p : List ℕ} {r : Wrote} → Written (full f) out r p → length f ≤ length out → (r ≡ Count (length f)) × (p ≡ f ++ drop (length f) out)
+pub written_whole : {f out p : List ℕ} {r : Result ℕ Refusal} → Written (full f) out r p → length f ≤ length out → (r ≡ Ok (length f)) × (p ≡ f ++ drop (length f) out)
 written_whole {f} {out} {p} {r} w h =
     let t : leb (length f) (length out) ≡ true = le-leb (length f) (length out) h in
-    (said_one r (Count (length f)) (w.says ∙ rw t), w.leaves ∙ rw t)
+    (said_one r (Ok (length f)) (w.says ∙ rw t), w.leaves ∙ rw t)
 
 -- a frame that was put at the start of a buffer with room for it is written
-pub put_written : {f out p : List ℕ} {n : ℕ} → length f ≤ length out → Puts f out 0 n p → Written (full f) out (Count n) p
+pub put_written : {f out p : List ℕ} {n : ℕ} → length f ≤ length out → Puts f out 0 n p → Written (full f) out (Ok n) p
 put_written {f} {out} {p} {n} h w =
     let t : leb (length f) (length out) ≡ true = le-leb (length f) (length out) h in
     let a = puts_room {t = f} {out = out} {at = 0} (omega arith) w in
@@ -78,13 +68,13 @@ module _ (h d o p q : List ℕ) (x m n : ℕ) (room : length h + length d < leng
       let b = puts_room {t = h ++ d} {out = o} {at = 0} (omega (arith, length-append h d)) both in
       ex ∙ rw b.1 (ap sum_of (take_at (h ++ d) (drop (0 + length (h ++ d)) o) (length h + length d) (length-append h d)))
 
-  pub writes : Written (full (sealed (h ++ d))) o (Count (length h + length d + 1)) (set q (length h + length d) x)
+  pub writes : Written (full (sealed (h ++ d))) o (Ok (length h + length d + 1)) (set q (length h + length d) x)
   writes =
       let l : length (sealed (h ++ d)) ≡ length h + length d + 1 = omega (arith, sealed_length (h ++ d), length-append h d) in
       put_written (omega arith)
       (rw sum_put (puts_then {t = h ++ d} (omega (arith, length-append h d)) both (puts_byte (sum_of (h ++ d)) q (length h + length d) (omega (arith, puts_length both)))))
 
-pub no_room : (h d o : List ℕ) → length o ≤ length h + length d → Written (full (sealed (h ++ d))) o (Refused 8) o
+pub no_room : (h d o : List ℕ) → length o ≤ length h + length d → Written (full (sealed (h ++ d))) o (Err NoRoom) o
 no_room h d o s =
     let t : leb (length (sealed (h ++ d))) (length o) ≡ false = lt-leb (length (sealed (h ++ d))) (length o) (omega (arith, sealed_length (h ++ d), length-append h d)) in
     record { says = rw t; leaves = rw t }

@@ -8,26 +8,21 @@ ghost use Rattle.refusal.specs.Answer.{full};
 ghost use Rattle.frame.specs.Frame.{sealed};
 ghost use Rattle.frame.specs.Written.{Written};
 
-// What a writer answers: how many bytes it wrote, or the number of its refusal.
-#[derive(Drop)]
-pub enum Wrote {
-    Count(usize),
-    Refused(u8),
-}
+use refusal::Refusal;
 
 // Writes the bytes of head, those of data, and their sum. Where they do not fit, no byte of the buffer changes; where they
 // do, the bytes behind the frame stay.
-pub fn write(head: &[u8], data: &[u8], out: &mut [u8]) -> Wrote
+pub fn write(head: &[u8], data: &[u8], out: &mut [u8]) -> Result<usize, Refusal>
     ensures { Written (full (sealed (head.now ++ «data».now))) out.old result out.new }
 {
     let h = head.len();
     let e = h + data.len();
     if out.len() <= e {
-        return Wrote::Refused(8);
+        return Err(Refusal::NoRoom);
     }
     lent::word(out, 0, head);
     lent::word(out, h, data);
     let x = sum::xor(&out[..e]);
     out[e] = x;
-    Wrote::Count(e + 1)
+    Ok(e + 1)
 }

@@ -5,8 +5,6 @@ use Rattle.refusal.specs.Test.{pick}
 use Rattle.refusal.specs.Answer.{Answer, refused, full, demand}
 use Rattle.command.specs.Command.{is_known, is_retired}
 use Rattle.free_number.specs.declared.Book.{Book}
-use Rattle.free_number.specs.declared.Given.{Given}
-use Rattle.free_number.specs.declared.Given.TheVariants.{Number, Refused}
 
 -- what stands for nothing held
 abbrev pub vacant : ℕ
@@ -40,8 +38,3 @@ number_for b c =
 -- a book of its parts, as they are lent: the entries, the last number
 abbrev pub book : List ℕ → ℕ → Book
 book asked last = record { asked = asked; last = last }
-
--- document 01's number and values for each case of an answer
-abbrev pub said_given : Given → Answer ℕ
-said_given (Refused k) = refused k
-said_given (Number n) = full n

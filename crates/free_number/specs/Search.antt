@@ -20,8 +20,10 @@ module _ (asked : List ℕ) (n k m : ℕ) (t : Bool) (left : 0 < k) (em : m ≡ 
   pub search_here : not t ≡ true → full m ≡ first_free asked n k
   search_here e = rw (turn, not-true t e)
 
-  pub search_on : not t ≡ false → first_free asked m (k - 1) ≡ first_free asked n k
-  search_on e = rw (turn, not-false t e)
+  pub search_on : (j : ℕ) → k ≡ suc j → not t ≡ false → first_free asked m j ≡ first_free asked n k
+  search_on j ej e =
+      let d : k - 1 ≡ j = omega arith in
+      rw (turn, not-false t e, d)
 
 -- what stands for nothing is no known command
 pub vacant_free : is_known vacant ≡ false

@@ -1,7 +1,7 @@
 -- What is poured are the first items of the whole stream, whatever comes behind the bytes at hand; and of a closed stream with room
 -- enough, all.
-use Rattle.std.specs.Prelude.{ℕ, zero, suc, ◌+◌, ◌-◌, ◌≤◌, ◌<◌, ◌≡◌, refl, Bool, true, false, length, take, drop, leb}
-use Rattle.std.proofs.Common.{sym, ap, ◌∙◌, length-append, length-drop, drop-drop, length-take-le, leb-true, leb-false, arith}
+use Rattle.std.specs.Prelude.{ℕ, zero, suc, ◌-◌, ◌≤◌, ◌<◌, ◌≡◌, refl, Bool, true, false, length, take, drop, leb}
+use Rattle.std.proofs.Common.{sym, ◌∙◌, length-append, length-drop, drop-drop, length-take-le, leb-true, leb-false, arith}
 use mathlib.Core.List.{List, [], ◌∷◌, ◌++◌}
 use Rattle.refusal.specs.Test.{clash}
 use Rattle.stream.specs.Stream.{Item, reading, Position, nothing, stands, items, counts_of}

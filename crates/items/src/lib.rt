@@ -4,10 +4,10 @@
 
 ghost use Rattle.items.specs.Pour.{poured_from, Pours};
 
-use line::{At, Line};
+use line::{Item, Line};
 
 // How far a pour read, and how much text it wrote.
-#[derive(Drop)]
+#[derive(Clone, Copy, Debug, PartialEq, Eq)]
 pub struct Poured {
     pub read: usize,
     pub wrote: usize,
@@ -20,9 +20,9 @@ pub fn pour(line: Line, s: &[u8], start: usize, closed: bool, out: &mut [u8]) ->
 {
     let mut at = start;
     let mut w: usize = 0;
+    // No `for` is plainer: a step is as long as the item that was read.
     while at < s.len() {
-        let found = line::item_at(line, closed, &s[at..]);
-        let At::Item(number, size) = found else {
+        let Some(Item { number, size }) = line::item_at(line, closed, &s[at..]) else {
             return Poured { read: at, wrote: w };
         };
         let e = at + size;

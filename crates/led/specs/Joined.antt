@@ -1,5 +1,5 @@
 -- A run is cut into what it was joined of, and only such a run is whole.
-use Rattle.std.specs.Prelude.{ℕ, ◌+◌, ◌<◌, List, [], ◌∷◌, ◌++◌, length}
+use Rattle.std.specs.Prelude.{ℕ, ◌<◌, List, [], ◌∷◌, ◌++◌, length}
 use Rattle.order.specs.Big.{big_bytes}
 
 -- some parts, each behind its length

@@ -1,12 +1,10 @@
 -- Parts that are led by their length. Document 02, W-207: "a two-byte length first .. all big-endian. The length counts what follows it";
 -- refusal 15: "cut short". W-208: "a run of event datagrams, each led by a two-byte big-endian length".
-use Rattle.std.specs.Prelude.{ℕ, zero, suc, ◌+◌, List, [], ◌∷◌, length, take, drop, leb, eqb}
+use Rattle.std.specs.Prelude.{ℕ, Option, Some, None, zero, suc, ◌+◌, List, [], ◌∷◌, length, take, drop, leb, eqb}
 use Rattle.refusal.specs.Test.{pick}
 use Rattle.refusal.specs.Answer.{Answer, refused, full, demand}
 use Rattle.frame.specs.Frame.{listed}
 use Rattle.order.specs.Order.{high_first, number_in}
-use Rattle.led.specs.declared.Part.{Part}
-use Rattle.led.specs.declared.Part.TheVariants.{Follows, Cut}
 
 -- the number in the first two bytes of a run
 abbrev pub length_in : List ℕ → ℕ
@@ -20,9 +18,9 @@ part_at s =
     (full (length_in s)))
 
 -- the number and value for each case of a part
-abbrev pub said_part : Part → Answer ℕ
-said_part (Follows n) = full n
-said_part Cut = refused 15
+abbrev pub said_part : Option ℕ → Answer ℕ
+said_part (Some n) = full n
+said_part None = refused 15
 
 -- A RUN OF PARTS, one behind the other to its end. "A run that ends inside a length or whose last length reaches past its end is refused
 -- whole with 15": the part at the front with those behind it

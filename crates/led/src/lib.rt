@@ -10,29 +10,19 @@ ghost use Rattle.led.specs.Led.{said_part, part_at, parts_of};
 // How many bytes the length itself takes.
 pub const LEAD: usize = 2;
 
-// How many bytes follow the length of the part at a place; or the run ends before them, or inside the length.
-#[derive(Drop)]
-pub enum Part {
-    Follows(usize),
-    Cut,
-}
-
-// The part that begins at a place of a run.
-pub fn part_at(s: &[u8], at: usize) -> Part
+// How many bytes follow the length of the part that begins at a place of a run; none where the run ends before them, or inside the length.
+pub fn part_at(s: &[u8], at: usize) -> Option<usize>
     ensures { said_part result ≡ part_at (drop at s.now) }
 {
-    if s.len() < at {
-        return Part::Cut;
-    }
-    let left = s.len() - at;
+    let left = s.len().checked_sub(at)?;
     if left < LEAD {
-        return Part::Cut;
+        return None;
     }
     let n = order::high_first(s[at], s[at + 1]) as usize;
     if left - LEAD < n {
-        return Part::Cut;
+        return None;
     }
-    Part::Follows(n)
+    Some(n)
 }
 
 // Whether a run is parts one behind the other, from its front to its end.
@@ -40,9 +30,9 @@ pub fn is_whole(s: &[u8]) -> bool
     ensures { result ≡ is_full (parts_of s.now) }
 {
     let mut i: usize = 0;
+    // a `while`: the step is the length that was read, so no range goes through these places
     while i < s.len() {
-        let p = part_at(s, i);
-        let Part::Follows(n) = p else {
+        let Some(n) = part_at(s, i) else {
             return false;
         };
         i += LEAD + n;

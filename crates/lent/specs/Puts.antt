@@ -1,6 +1,6 @@
 -- A run of bytes (a text) in a lent buffer, from a place on. Document 01, "Refusals, by number": "no lent byte .. changes" where a call is
 -- refused, and "bytes after the frame stay".
-use Rattle.std.specs.Prelude.{ℕ, suc, ◌+◌, ◌-◌, ◌≤◌, ◌<◌, ◌≡◌, Bool, true, false, List, [], ◌∷◌, ◌++◌, length, take, drop, set, leb}
+use Rattle.std.specs.Prelude.{ℕ, suc, ◌+◌, ◌≤◌, ◌<◌, ◌≡◌, Bool, true, false, List, [], ◌∷◌, ◌++◌, length, take, drop, set, leb}
 use Rattle.std.proofs.Common.{sym, ap, ◌∙◌, append_assoc, length-append, drop_at, length-take-le, le-leb, arith}
 use Rattle.std.proofs.lemmas.List.Edits.{sets, sets-eq}
 use Rattle.std.proofs.Math.Seq.{paste-zero, append_snoc}

@@ -22,16 +22,10 @@ pub fn word(out: &mut [u8], at: usize, s: &[u8]) -> usize
     ensures { Puts s.now out.old at result out.new }
 {
     let n = s.len();
-    if out.len() < n {
+    if out.len() < n || out.len() - n < at {
         return at;
     }
-    if out.len() - n < at {
-        return at;
-    }
-    let mut i: usize = 0;
-    while i < n {
-        out[at + i] = s[i];
-        i += 1;
-    }
-    at + n
+    let end = at + n;
+    out[at..end].copy_from_slice(s);
+    end
 }

@@ -1,6 +1,6 @@
 -- The rule of a line is lawful: what it settles stays settled, it is settled by the fewest bytes that can, and one that waits has
 -- no more bytes than the line's reader holds.
-use Rattle.std.specs.Prelude.{ℕ, suc, ◌-◌, ◌≤◌, ◌<◌, ◌≡◌, refl, List, ◌∷◌, length, take, replicate}
+use Rattle.std.specs.Prelude.{ℕ, suc, ◌≤◌, ◌<◌, ◌≡◌, refl, List, ◌∷◌, length, take, replicate}
 use Rattle.std.proofs.Common.{sym, ap, ◌∙◌, arith}
 use Rattle.lead.specs.Lead.{reply_data}
 use Rattle.command.specs.Command.{shape_of}

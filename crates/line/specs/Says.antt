@@ -1,6 +1,6 @@
 -- The rule with the count says at each position what document 01's rule says there; and what stands at a position is that, or at close
 -- item 1.
-use Rattle.std.specs.Prelude.{ℕ, suc, ◌≤◌, ◌<◌, ◌≡◌, refl, Bool, true, false, List, [], ◌∷◌, length, take, drop, leb, eqb}
+use Rattle.std.specs.Prelude.{ℕ, suc, ◌≤◌, ◌<◌, ◌≡◌, refl, Bool, true, false, List, [], ◌∷◌, length, take, drop, leb, eqb, Option}
 use Rattle.std.proofs.Common.{sym, ap, ◌∙◌, arith}
 use Rattle.refusal.specs.Test.{pick, clash}
 use Rattle.sum.specs.Sum.{sum_of}
@@ -70,7 +70,7 @@ unfolding item_at
 item_at_lem on closed [] l = absurd (omega arith)
 item_at_lem on closed (b ∷ s) l = ap (at_close closed) (sym (settle_says on (b ∷ s)))
 
-pub said_at_lem : (on : Line) (closed : Bool) (s : List ℕ) (r : Step) → 1 ≤ length s → said_step r ≡ settle on s
+pub said_at_lem : (on : Line) (closed : Bool) (s : List ℕ) (r : Option Step) → 1 ≤ length s → said_step r ≡ settle on s
     → at_close closed (position (said_step r)) ≡ item_at on closed s
 said_at_lem on closed s r l e = rw e (sym (item_at_lem on closed s l))
 

@@ -7,6 +7,7 @@ ghost use Rattle.std.specs.Prelude.{◌≤◌, ◌≡◌, length};
 ghost use Rattle.extent.specs.Line.{in_table, request_in_table, least_of};
 ghost use Rattle.line.specs.Rule.{settle, frame_item, item_at};
 ghost use Rattle.line.specs.Said.{said_at};
+ghost use Rattle.stream.specs.Stream.{Settled};
 ghost use Rattle.stream.specs.Said.{said_step};
 
 use command::Shape;
@@ -29,8 +30,7 @@ fn arguments_fit(f: &[u8]) -> bool
     requires { 8 ≤ length f.now }
     ensures { result ≡ request_in_table f.now }
 {
-    let shape = command::shape_of(f[2]);
-    match shape {
+    match command::shape_of(f[2]) {
         Shape::Unknown => true,
         Shape::Basic(rule) => ranges::fits(rule, f[3], f[4], f[5], f[6]),
         Shape::Unicast => true,
@@ -38,61 +38,72 @@ fn arguments_fit(f: &[u8]) -> bool
     }
 }
 
+// An item of one byte, where so many bytes settle it.
+fn one_byte(number: u8, settled: usize) -> Step
+    ensures { said_step (Some result) ≡ Settled number 1 settled }
+{
+    Step {
+        number,
+        size: 1,
+        settled,
+    }
+}
+
 // The item at a position where a frame of n bytes begins.
-fn frame(line: Line, n: usize, s: &[u8]) -> Step
+fn frame(line: Line, n: usize, s: &[u8]) -> Option<Step>
     requires { least_of line ≤ n }
     ensures { said_step result ≡ frame_item line n s.now }
 {
     if s.len() < n {
-        return Step::More;
+        return None;
     }
     let f = &s[..n];
     if sum::xor(f) != 0 {
-        return Step::Item(6, 1, n);
+        return Some(one_byte(6, n));
     }
-    if fits(line, f) {
-        Step::Item(0, n, n)
-    } else {
-        Step::Item(7, n, n)
-    }
+    let number = if fits(line, f) { 0 } else { 7 };
+    Some(Step {
+        number,
+        size: n,
+        settled: n,
+    })
 }
 
-// What the rule of a line says of the bytes at a position.
-pub fn settled(line: Line, s: &[u8]) -> Step
+// What the rule of a line says of the bytes at a position: an item, or that more are needed.
+pub fn settled(line: Line, s: &[u8]) -> Option<Step>
     ensures { said_step result ≡ settle line s.now }
 {
-    if s.len() < 1 {
-        return Step::More;
+    if s.is_empty() {
+        return None;
     }
     if !leads(line, s[0]) {
-        return Step::Item(2, 1, 1);
+        return Some(one_byte(2, 1));
     }
-    let told = extent_of(line, s);
-    match told {
-        Extent::Wait => Step::More,
-        Extent::Bad(k, d) => Step::Item(k, 1, d),
+    match extent_of(line, s) {
+        Extent::Wait => None,
+        Extent::Bad(k, d) => Some(one_byte(k, d)),
         Extent::Frame(n) => frame(line, n, s),
     }
 }
 
-// What stands at a position: nothing (yet, or no more), or an item by its number and its size.
-#[derive(Drop)]
-pub enum At {
-    Nothing,
-    Item(u8, usize),
+// An item that stands at a position, by its number and its size.
+#[derive(Clone, Copy, Debug, PartialEq, Eq)]
+pub struct Item {
+    pub number: u8,
+    pub size: usize,
 }
 
-// What stands at a position from which on these bytes are there. Where the line is closed no more come: what would wait is then
-// item 1, one byte.
-pub fn item_at(line: Line, closed: bool, s: &[u8]) -> At
+// What stands at a position from which on these bytes are there: an item, or nothing (yet, or no more). Where the line is closed no more
+// come: what would wait is then item 1, one byte.
+pub fn item_at(line: Line, closed: bool, s: &[u8]) -> Option<Item>
     ensures { said_at result ≡ item_at line closed s.now }
 {
-    if s.len() < 1 {
-        return At::Nothing;
+    if s.is_empty() {
+        return None;
     }
-    let step = settled(line, s);
-    match step {
-        Step::Item(k, m, _) => At::Item(k, m),
-        Step::More => { if closed { At::Item(1, 1) } else { At::Nothing } }
+    match settled(line, s) {
+        Some(Step { number, size, .. }) => Some(Item { number, size }),
+        None if closed => Some(Item { number: 1, size: 1 }),
+        None => None,
     }
 }

@@ -1,9 +1,7 @@
 -- what the contracts cite
 pub mod Bit
-pub mod Said
 pub mod Maps
 -- what is claimed of it
-pub mod Determined
 pub mod Places
 pub mod Placed
 pub mod Slip

@@ -1,7 +1,7 @@
 -- What the definitions of Maps.antt say of single bits: each stands where the maker puts it, and the count and the lowest are those
 -- of the bits that are set there. Stated once, over the byte order and the number of bytes, and cited for each map.
 use Rattle.std.specs.Prelude.{ℕ, ◌-◌, ◌*◌, ◌/◌, ◌%◌, ◌^◌, ◌<◌, ◌≡◌, refl, Bool, true, false, not, ◌↔◌, List, eqb, length, get_or}
-use Rattle.std.proofs.Common.{sym, ◌∙◌, inl, inr, eqb-true, eq-eqb, arith}
+use Rattle.std.proofs.Common.{sym, ◌∙◌, inl, inr, eqb-true, eq-eqb}
 use Rattle.std.proofs.lemmas.Bool.{eqb-false, not-true}
 use Rattle.refusal.specs.Test.{clash}
 use Rattle.refusal.specs.Answer.{refused, full, demand_elim, full_one}

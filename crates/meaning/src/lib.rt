@@ -11,7 +11,7 @@ use command::Rule;
 use target::{Device, Group, LineTarget, Target};
 
 // The four argument bytes of a basic request, as they stand in it.
-#[derive(Clone, Copy)]
+#[derive(Clone, Copy, Debug, Default, PartialEq, Eq)]
 pub struct Arguments {
     pub a: u8,
     pub b: u8,
@@ -20,7 +20,7 @@ pub struct Arguments {
 }
 
 // What the arguments of a basic request mean, as far as its command has them.
-#[derive(Clone, Copy)]
+#[derive(Clone, Copy, Debug, PartialEq, Eq)]
 pub enum Meaning {
     Nothing,
     Group(Group),
@@ -67,6 +67,7 @@ pub enum Meaning {
 }
 
 // What four arguments mean under a rule.
+#[tactic(auto, unfolding(crate::specs::Meaning::meaning_of))]
 pub fn meaning_of(rule: Rule, a: u8, b: u8, c: u8, d: u8) -> Meaning
     ensures { said_meaning result ≡ meaning_of rule a b c d }
 {
@@ -115,6 +116,17 @@ pub fn meaning_of(rule: Rule, a: u8, b: u8, c: u8, d: u8) -> Meaning
     }
 }
 
+// The arguments of a line target and a last byte.
+fn aimed(target: LineTarget, last: u8) -> Arguments
+    ensures { result ≡ last_bytes target last }
+{
+    Arguments {
+        a: target.0,
+        d: last,
+        ..Arguments::default()
+    }
+}
+
 // The arguments that say what they are given, one way for each rule with a place for a group, a device or a line target. They judge
 // nothing: the writer of requests does.
 impl Arguments {
@@ -124,9 +136,7 @@ impl Arguments {
     {
         Arguments {
             a: group.0,
-            b: 0,
-            c: 0,
-            d: 0,
+            ..Arguments::default()
         }
     }
 
@@ -137,8 +147,7 @@ impl Arguments {
         Arguments {
             a: group.0,
             b: scene,
-            c: 0,
-            d: 0,
+            ..Arguments::default()
         }
     }
 
@@ -148,9 +157,8 @@ impl Arguments {
     {
         Arguments {
             a: device.0,
-            b: 0,
-            c: 0,
             d: instance,
+            ..Arguments::default()
         }
     }
 
@@ -158,11 +166,12 @@ impl Arguments {
     pub fn inhibit(target: LineTarget, seconds: u16) -> Arguments
         ensures { result ≡ inhibit_bytes target seconds }
     {
+        let [c, d] = seconds.to_be_bytes();
         Arguments {
             a: target.0,
             b: 0,
-            c: (seconds / 256 % 256) as u8,
-            d: (seconds % 256) as u8,
+            c,
+            d,
         }
     }
 
@@ -170,47 +179,27 @@ impl Arguments {
     pub fn scene(target: LineTarget, scene: u8) -> Arguments
         ensures { result ≡ last_bytes target scene }
     {
-        Arguments {
-            a: target.0,
-            b: 0,
-            c: 0,
-            d: scene,
-        }
+        aimed(target, scene)
     }
 
     // A2.
     pub fn level(target: LineTarget, level: u8) -> Arguments
         ensures { result ≡ last_bytes target level }
     {
-        Arguments {
-            a: target.0,
-            b: 0,
-            c: 0,
-            d: level,
-        }
+        aimed(target, level)
     }
 
     // A3 to A9.
     pub fn lights(target: LineTarget) -> Arguments
         ensures { result ≡ target_bytes target }
     {
-        Arguments {
-            a: target.0,
-            b: 0,
-            c: 0,
-            d: 0,
-        }
+        aimed(target, 0)
     }
 
     // AA, AB, AD and AE.
     pub fn target(target: LineTarget) -> Arguments
         ensures { result ≡ target_bytes target }
     {
-        Arguments {
-            a: target.0,
-            b: 0,
-            c: 0,
-            d: 0,
-        }
+        aimed(target, 0)
     }
 }

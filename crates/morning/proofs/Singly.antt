@@ -10,16 +10,16 @@ use Rattle.led.specs.Parts.{AllBytes}
 use Rattle.led.proofs.Parts.{parts_bytes}
 use Rattle.event.specs.declared.Layout.{Layout}
 use Rattle.summary.specs.declared.Summary.{Summary}
-use Rattle.summary.specs.declared.Went.{Went}
-use Rattle.summary.specs.declared.Went.TheVariants.{Well, Refused}
 use Rattle.capture.specs.declared.Mark.{Mark}
-use Rattle.capture.specs.Capture.{front_of, opened, found}
-use Rattle.append.specs.Append.{verdict, verdict_at, handed, appended_to}
+use Rattle.capture.specs.declared.Kept.{Kept}
+use Rattle.capture.specs.Capture.{front_of, opened}
+use Rattle.append.specs.Append.{verdict, verdict_at, handed, left_by, appended_to, stands_after}
 use Rattle.append.specs.Judged.{opened_there}
 use Rattle.year.specs.Marks.{Marks}
-use Rattle.year.specs.Runs.{Call, Left, by_letter, alike}
+use Rattle.year.specs.Runs.{Call, Left, leaves_at, says_in_use, plain as plain_left, by_letter, alike}
 use Rattle.morning.specs.Morning.{entered_by, refused_by, Stand, single, singles, begins, StandAt, single_at, singles_at, begins_at, judged, ran, ran_at}
-use Rattle.morning.specs.Singly.{calls, behind, after, Marked, Alike, AsLetter}
+use Rattle.morning.specs.Going.{one_each}
+use Rattle.morning.specs.Singly.{calls, behind, after, plain, Marked, Alike, AsLetter}
 
 -- the stand behind a run is the one behind the run of these calls by the letter (crate year)
 singles_calls : (t : ℕ) (ds : List (List ℕ)) (z : Stand) → singles t z ds ≡ after z (by_letter z.buffer z.used z.summary (calls t ds))
@@ -33,15 +33,11 @@ unfolding ran
 run_is_singles b u x t run ds e p = rw (e, p) (ap full (singles_calls t ds (begins b u x)))
 
 -- WHAT WENT IN AND WHAT WAS REFUSED are all of them
-one_each : (w : Went) → entered_by w + refused_by w ≡ 1
-one_each Well = refl
-one_each (Refused k) = refl
-
 pub counts_add : (t : ℕ) (ds : List (List ℕ)) (z : Stand) → (singles t z ds).entered + (singles t z ds).refused ≡ z.entered + z.refused + length ds
 unfolding singles
 counts_add t [] z = omega arith
 counts_add t (d ∷ ds) z =
-    let w = (appended_to (verdict z.buffer z.used z.summary t d) z.used z.summary t d).went in
+    let w = appended_to (verdict z.buffer z.used z.summary t d) z.used d in
     omega (arith, counts_add t ds (single t z d), one_each w)
 
 pub counts_add_at : (t : ℕ) (ds : List (List ℕ)) (z : StandAt)
@@ -49,7 +45,7 @@ pub counts_add_at : (t : ℕ) (ds : List (List ℕ)) (z : StandAt)
 unfolding singles_at
 counts_add_at t [] z = omega arith
 counts_add_at t (d ∷ ds) z =
-    let w = (found (handed (verdict_at z.buffer z.kept.mark z.kept.summary t d) z.kept.mark.used t d) z.kept).went in
+    let w = handed (verdict_at z.buffer z.kept.mark z.kept.summary t d) z.kept.mark.used t d in
     omega (arith, counts_add_at t ds (single_at t z d), one_each w)
 
 -- of the call: what was answered, and the number of the run's datagrams
@@ -74,6 +70,31 @@ unfolding ran_at
 in_and_refused_at b m x t run ds e f =
     rw (← ran_all (front_of b m.used) ds (parts_of run) (singles_at t (begins_at b m x)) e f) (omega (arith, counts_add_at t ds (begins_at b m x)))
 
+-- one by a mark and one by the letter count alike
+entered_same : (a : Answer Kept) → entered_by a ≡ entered_by (says_in_use a)
+entered_same (refused k) = refl
+entered_same (full k) = refl
+
+refused_same : (a : Answer Kept) → refused_by a ≡ refused_by (says_in_use a)
+refused_same (refused k) = refl
+refused_same (full k) = refl
+
+single_plain : (t : ℕ) (z : StandAt) (d : List ℕ)
+    → plain (single_at t z d) ≡ behind z.entered z.refused (plain_left (leaves_at z.buffer z.kept.mark z.kept.summary (record { seconds = t; datagram = d })))
+single_plain t z d =
+    let m = z.kept.mark in
+    let v = verdict_at z.buffer m z.kept.summary t d in
+    let a = handed v m.used t d in
+    let k = stands_after a z.kept in
+    λ i.
+    record {
+      entered = z.entered + entered_same a i;
+      refused = z.refused + refused_same a i;
+      used = k.mark.used;
+      summary = k.summary;
+      buffer = left_by v z.buffer m.used t d;
+    }
+
 pub singles_alike : (t : ℕ) → t < 4294967296 → (ds : List (List ℕ)) → AllBytes ds → (z : StandAt) → Marked z → Alike t z ds
 unfolding singles singles_at
 singles_alike t s [] h z k = record { same = refl; marked = k }
@@ -82,7 +103,7 @@ singles_alike t s (d ∷ ds) h z k =
     let a = alike z.buffer z.kept.mark z.kept.summary c (record { short = s; bytes = h.0 }) k.bytes k.marks in
     let r = singles_alike t s ds h.1 (single_at t z d) (record { marks = a.marks; bytes = a.bytes }) in
     record {
-      same = r.same ∙ ap (λ (l : Left). singles t (behind z.entered z.refused l) ds) a.same;
+      same = r.same ∙ ap (λ (s : Stand). singles t s ds) (single_plain t z d) ∙ ap (λ (l : Left). singles t (behind z.entered z.refused l) ds) a.same;
       marked = r.marked;
     }
 

@@ -1,27 +1,27 @@
 -- Document 02, W-208: "The collector hands us a run of event datagrams, each led by a two-byte big-endian length. Read and append them all
 -- under one time given with it."
-use Rattle.std.specs.Prelude.{ℕ, ◌+◌, ◌≡◌, List, [], ◌∷◌}
+use Rattle.std.specs.Prelude.{ℕ, Result, ◌+◌, ◌≡◌, List, [], ◌∷◌}
 use Rattle.std.proofs.Common.{sym, ◌∙◌}
-use Rattle.refusal.specs.Answer.{Answer, refused, full}
+use Rattle.refusal.specs.declared.Refusal.{Refusal}
+use Rattle.refusal.specs.Answer.{Answer, refused, full, determined, said, said_one}
 use Rattle.led.specs.Led.{parts_of}
 use Rattle.summary.specs.declared.Summary.{Summary}
-use Rattle.summary.specs.declared.Went.{Went}
-use Rattle.summary.specs.declared.Went.TheVariants.{Well, Refused}
 use Rattle.capture.specs.declared.Mark.{Mark}
 use Rattle.capture.specs.declared.Kept.{Kept}
-use Rattle.capture.specs.Capture.{front_of, opened, found}
-use Rattle.append.specs.Append.{verdict, verdict_at, handed, left_by, appended_to}
+use Rattle.capture.specs.Capture.{front_of, opened}
+use Rattle.append.specs.declared.Appended.{Appended}
+use Rattle.append.specs.Append.{verdict, verdict_at, handed, left_by, appended_to, stands_after}
 use Rattle.morning.specs.declared.Ran.{Ran}
 use Rattle.morning.specs.declared.RanAt.{RanAt}
 
 -- "how many went in and how many were refused", by one append
-abbrev pub entered_by : Went → ℕ
-entered_by Well = 1
-entered_by (Refused k) = 0
+abbrev pub entered_by : {A : Type 0} → Answer A → ℕ
+entered_by (full y) = 1
+entered_by (refused k) = 0
 
-abbrev pub refused_by : Went → ℕ
-refused_by Well = 0
-refused_by (Refused k) = 1
+abbrev pub refused_by : {A : Type 0} → Answer A → ℕ
+refused_by (full y) = 0
+refused_by (refused k) = 1
 
 -- SINGLY, BY THE LETTER: what stands after some datagrams
 pub record Stand : Type 0 where
@@ -35,12 +35,13 @@ pub record Stand : Type 0 where
 abbrev pub single : ℕ → Stand → List ℕ → Stand
 single t z d =
     let v = verdict z.buffer z.used z.summary t d in
-    let a = appended_to v z.used z.summary t d in
+    let a = appended_to v z.used d in
+    let s = stands_after a (record { used = z.used; summary = z.summary }) in
     record {
-      entered = z.entered + entered_by a.went;
-      refused = z.refused + refused_by a.went;
-      used = a.used;
-      summary = a.summary;
+      entered = z.entered + entered_by a;
+      refused = z.refused + refused_by a;
+      used = s.used;
+      summary = s.summary;
       buffer = left_by v z.buffer z.used t d;
     }
 
@@ -63,11 +64,11 @@ abbrev pub single_at : ℕ → StandAt → List ℕ → StandAt
 single_at t z d =
     let m = z.kept.mark in
     let v = verdict_at z.buffer m z.kept.summary t d in
-    let f = found (handed v m.used t d) z.kept in
+    let a = handed v m.used t d in
     record {
-      entered = z.entered + entered_by f.went;
-      refused = z.refused + refused_by f.went;
-      kept = f.kept;
+      entered = z.entered + entered_by a;
+      refused = z.refused + refused_by a;
+      kept = stands_after a z.kept;
       buffer = left_by v z.buffer m.used t d;
     }
 
@@ -93,16 +94,24 @@ ran b u x t run = judged (opened b u) (parts_of run) (singles t (begins b u x))
 unfoldable pub ran_at : List ℕ → Mark → Summary → ℕ → List ℕ → Answer StandAt
 ran_at b m x t run = judged (front_of b m.used) (parts_of run) (singles_at t (begins_at b m x))
 
--- what is answered: beside a refusal of the call nothing went in, nothing was refused, and the rest is what was handed in
-abbrev pub ran_out : Answer Stand → ℕ → Summary → Ran
-ran_out (refused k) u x = record { went = Refused k; entered = 0; refused = 0; used = u; summary = x }
-ran_out (full z) u x = record { went = Well; entered = z.entered; refused = z.refused; used = z.used; summary = z.summary }
+-- what is answered
+abbrev pub ran_out : Answer Stand → Answer Ran
+ran_out (refused k) = refused k
+ran_out (full z) = full (record { entered = z.entered; refused = z.refused; used = z.used; summary = z.summary })
 
-abbrev pub ran_at_out : Answer StandAt → Mark → Summary → RanAt
-ran_at_out (refused k) m x = record { went = Refused k; entered = 0; refused = 0; kept = record { mark = m; summary = x } }
-ran_at_out (full z) m x = record { went = Well; entered = z.entered; refused = z.refused; kept = z.kept }
+abbrev pub ran_at_out : Answer StandAt → Answer RanAt
+ran_at_out (refused k) = refused k
+ran_at_out (full z) = full (record { entered = z.entered; refused = z.refused; kept = z.kept })
 
--- and the buffer that is left
+-- what stands after the call, on a refusal what was handed in: bytes in use and summary, mark and summary, and the buffer
+abbrev pub ran_stands : Answer Stand → Appended → Appended
+ran_stands (refused k) x = x
+ran_stands (full z) x = record { used = z.used; summary = z.summary }
+
+abbrev pub ran_at_stands : Answer StandAt → Kept → Kept
+ran_at_stands (refused k) x = x
+ran_at_stands (full z) x = z.kept
+
 abbrev pub ran_left : Answer Stand → List ℕ → List ℕ
 ran_left (refused k) b = b
 ran_left (full z) b = z.buffer
@@ -112,18 +121,18 @@ ran_at_left (refused k) b = b
 ran_at_left (full z) b = z.buffer
 
 -- the contract of a run by the letter: what it answers, and every byte of the buffer
-pub record Runs (a : Answer Stand) (b : List ℕ) (u : ℕ) (x : Summary) (r : Ran) (b' : List ℕ) : Type 0 where
-  pub says : r ≡ ran_out a u x
+pub record Runs (a : Answer Stand) (b : List ℕ) (r : Result Ran Refusal) (b' : List ℕ) : Type 0 where
+  pub says : said r ≡ ran_out a
   pub leaves : b' ≡ ran_left a b
 
 -- and of one by a mark
-pub record RunsAt (a : Answer StandAt) (b : List ℕ) (m : Mark) (x : Summary) (r : RanAt) (b' : List ℕ) : Type 0 where
-  pub says : r ≡ ran_at_out a m x
+pub record RunsAt (a : Answer StandAt) (b : List ℕ) (r : Result RanAt Refusal) (b' : List ℕ) : Type 0 where
+  pub says : said r ≡ ran_at_out a
   pub leaves : b' ≡ ran_at_left a b
 
 -- they leave no choice
-pub runs_one : {a : Answer Stand} {b p q : List ℕ} {u : ℕ} {x : Summary} {r s : Ran} → Runs a b u x r p → Runs a b u x s q → (r ≡ s) × (p ≡ q)
-runs_one x y = (x.says ∙ sym y.says, x.leaves ∙ sym y.leaves)
+pub runs_one : {a : Answer Stand} {b p q : List ℕ} {r s : Result Ran Refusal} → Runs a b r p → Runs a b s q → (r ≡ s) × (p ≡ q)
+runs_one {r = r} {s = s} x y = (determined said said_one r s x.says y.says, x.leaves ∙ sym y.leaves)
 
-pub runs_at_one : {a : Answer StandAt} {b p q : List ℕ} {m : Mark} {x : Summary} {r s : RanAt} → RunsAt a b m x r p → RunsAt a b m x s q → (r ≡ s) × (p ≡ q)
-runs_at_one x y = (x.says ∙ sym y.says, x.leaves ∙ sym y.leaves)
+pub runs_at_one : {a : Answer StandAt} {b p q : List ℕ} {r s : Result RanAt Refusal} → RunsAt a b r p → RunsAt a b s q → (r ≡ s) × (p ≡ q)
+runs_at_one {r = r} {s = s} x y = (determined said said_one r s x.says y.says, x.leaves ∙ sym y.leaves)

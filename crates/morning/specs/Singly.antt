@@ -18,10 +18,10 @@ calls t (d ∷ ds) = record { seconds = t; datagram = d } ∷ calls t ds
 abbrev pub behind : ℕ → ℕ → Left → Stand
 behind e r l =
     record {
-      entered = e + entered_by l.says.went;
-      refused = r + refused_by l.says.went;
-      used = l.says.used;
-      summary = l.says.summary;
+      entered = e + entered_by l.says;
+      refused = r + refused_by l.says;
+      used = l.stands.used;
+      summary = l.stands.summary;
       buffer = l.buffer;
     }
 

@@ -1,15 +1,16 @@
 // Names of numbers as text, for programs that print them: of refusals, commands, types of replies, error codes and types of events. It
-// leans on crate words, which finds a name by its place, on crate lent for what is put from a place on, and on crate frame for what a writer answers.
+// leans on crate words, which finds a name by its place, on crate lent for what is put from a place on, and on crate frame for what a
+// writer promises.
 #![tactic(auto)]
 
-ghost use Rattle.std.specs.Prelude.{◌≡◌};
+ghost use Rattle.std.specs.Prelude.{◌≡◌, ◌+◌, ◌*◌, ◌<◌, unwrap_or, IfSome};
 ghost use Rattle.lent.specs.Puts.{Puts};
 ghost use Rattle.frame.specs.Written.{Written};
 ghost use Rattle.words.specs.Words.{word_in};
 ghost use Rattle.names.specs.Names.{name_of, name_text};
 ghost use Rattle.names.specs.Places.{place_in, keys, names};
 
-use frame::Wrote;
+use refusal::Refusal;
 
 // The kinds of numbers that have names.
 pub const REFUSAL: u8 = 0;
@@ -114,18 +115,13 @@ const KEYS: [u16; 83] = [
     0x4_09, // PROFILE_CHANGED
 ];
 
-// The place of a key among the rows, or how many rows there are.
-fn place(key: u16) -> usize
-    ensures { result ≡ place_in key keys }
+// The place of the row of a kind and a number.
+fn place(kind: u8, number: u8) -> Option<usize>
+    ensures told { unwrap_or result 83 ≡ place_in (kind * 256 + number) keys }
+    ensures within { IfSome result (λ k. k < 83) }
 {
-    let mut k: usize = 0;
-    while k < 83 {
-        if KEYS[k] == key {
-            return k;
-        }
-        k += 1;
-    }
-    k
+    let key = u16::from_be_bytes([kind, number]);
+    KEYS.iter().position(|k| *k == key)
 }
 
 // Puts the name of a row; where there are fewer rows, nothing. The names stand in the order of the rows, a blank behind each.
@@ -159,21 +155,22 @@ COLOUR_CHANGED PROFILE_CHANGED ",
 pub fn put(out: &mut [u8], at: usize, kind: u8, number: u8) -> usize
     ensures { Puts (name_text kind number) out.old at result out.new }
 {
-    let row = place((kind as u16) * 256 + (number as u16));
-    of_row(out, at, row)
+    match place(kind, number) {
+        Some(k) => of_row(out, at, k),
+        None => at,
+    }
 }
 
 // Puts the name of a number of a kind: 7 where it has none, 8 where the buffer is shorter than the name.
-pub fn name(kind: u8, number: u8, out: &mut [u8]) -> Wrote
+pub fn name(kind: u8, number: u8, out: &mut [u8]) -> Result<usize, Refusal>
     ensures { Written (name_of kind number) out.old result out.new }
 {
-    let k = place((kind as u16) * 256 + (number as u16));
-    if 83 <= k {
-        return Wrote::Refused(7);
-    }
+    let Some(k) = place(kind, number) else {
+        return Err(Refusal::BadArgument);
+    };
     let n = of_row(out, 0, k);
     if n == 0 {
-        return Wrote::Refused(8);
+        return Err(Refusal::NoRoom);
     }
-    Wrote::Count(n)
+    Ok(n)
 }

@@ -7,7 +7,7 @@ ghost use Rattle.words.specs.Words.{text};
 ghost use Rattle.options.specs.Option.{is_same, is_option, option_of};
 
 // What the first word asks for: the help, a form of the sheet, an option that there is not; or it is no option.
-#[derive(Drop)]
+#[derive(Clone, Copy, Debug, PartialEq, Eq)]
 pub enum Asked {
     Help,
     Text,
@@ -17,52 +17,37 @@ pub enum Asked {
 }
 
 // Whether two runs have the same bytes.
+#[tactic(auto, using(crate::specs::Same::same_bytes))]
 pub fn same(a: &[u8], b: &[u8]) -> bool
     ensures { result ≡ is_same a.now b.now }
 {
-    if a.len() < b.len() {
-        return false;
-    }
-    if b.len() < a.len() {
-        return false;
-    }
-    let mut i: usize = 0;
-    while i < a.len() {
-        if a[i] != b[i] {
-            return false;
-        }
-        i += 1;
-    }
-    true
+    a == b
 }
 
 // Whether a word begins as an option does.
+#[tactic(auto, unfolding(crate::specs::Option::is_option))]
 pub fn is_option(s: &[u8]) -> bool
     ensures { result ≡ is_option s.now }
 {
-    if s.len() < 2 {
-        return false;
-    }
-    (s[0] == b'-') & (s[1] == b'-')
+    s.starts_with(b"--")
 }
 
 // What the first word asks for.
+#[tactic(auto, unfolding(crate::specs::Option::option_of))]
 pub fn option_of(s: &[u8]) -> Asked
     ensures { result ≡ option_of s.now }
 {
     if same(s, b"--help") {
-        return Asked::Help;
+        Asked::Help
+    } else if same(s, b"--text") {
+        Asked::Text
+    } else if same(s, b"--svg") {
+        Asked::Svg
+    } else if is_option(s) {
+        Asked::NoSuch
+    } else {
+        Asked::NoOption
     }
-    if same(s, b"--text") {
-        return Asked::Text;
-    }
-    if same(s, b"--svg") {
-        return Asked::Svg;
-    }
-    if is_option(s) {
-        return Asked::NoSuch;
-    }
-    Asked::NoOption
 }
 
 // Whether a file's name stands for standard input.

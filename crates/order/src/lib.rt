@@ -1,6 +1,6 @@
 // The number that some bytes stand for, in the order in which the maker writes them. Every crate above that makes a number of
 // bytes leans on this one. Document 01, "Frames" and "Four orders in reply data".
-#![tactic(auto)]
+#![tactic(auto, unfolding(crate::specs::Order::number_by))]
 
 ghost use Rattle.std.specs.Prelude.{◌≡◌, [], ◌∷◌};
 ghost use Rattle.order.specs.Order.{high_first, number_in};
@@ -9,19 +9,19 @@ ghost use Rattle.order.specs.Order.{high_first, number_in};
 pub fn high_first(high: u8, low: u8) -> u16
     ensures { result ≡ number_in high_first 2 (high ∷ low ∷ []) }
 {
-    (high as u16) * 256 + (low as u16)
+    u16::from_be_bytes([high, low])
 }
 
 // The number of three bytes, high byte first.
 pub fn high_first_of_three(high: u8, middle: u8, low: u8) -> u32
     ensures { result ≡ number_in high_first 3 (high ∷ middle ∷ low ∷ []) }
 {
-    ((high as u32) * 256 + (middle as u32)) * 256 + (low as u32)
+    u32::from_be_bytes([0, high, middle, low])
 }
 
 // The number of four bytes, high byte first.
 pub fn high_first_of_four(high: u8, second: u8, third: u8, low: u8) -> u32
     ensures { result ≡ number_in high_first 4 (high ∷ second ∷ third ∷ low ∷ []) }
 {
-    (((high as u32) * 256 + (second as u32)) * 256 + (third as u32)) * 256 + (low as u32)
+    u32::from_be_bytes([high, second, third, low])
 }

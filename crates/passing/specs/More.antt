@@ -2,7 +2,6 @@
 use Rattle.std.specs.Prelude.{ℕ, ◌+◌, ◌≤◌, ◌<◌, ◌≡◌, refl, Bool, true, false, List, [], ◌++◌, length, leb}
 use Rattle.std.proofs.Common.{sym, ap, ◌∙◌, append-nil, length-append, le-leb, leb-true, leb-false, arith}
 use Rattle.std.proofs.lemmas.Bool.{lt-leb}
-use Rattle.refusal.specs.Test.{pick}
 use Rattle.record.specs.Record.{Entry}
 use Rattle.capture.specs.Capture.{sizes_of}
 use Rattle.capture.specs.Walk.{sizes_append, last_append}

@@ -1,7 +1,6 @@
 -- Document 02, W-213: the records of a capture, passed one by one, and the tally of them.
-use Rattle.std.specs.Prelude.{ℕ, List, length}
+use Rattle.std.specs.Prelude.{ℕ, List, length, None}
 use Rattle.record.specs.Record.{Entry}
-use Rattle.summary.specs.declared.Seconds.TheVariants.{Absent}
 use Rattle.summary.specs.Summary.{last_from}
 use Rattle.capture.specs.Capture.{records_from, sizes_of}
 use Rattle.season.specs.declared.Corridor.{Corridor}
@@ -13,7 +12,7 @@ use Rattle.passing.specs.declared.Pass.{Pass}
 
 -- of no records
 abbrev pub none_passed : Passed
-none_passed = record { records = 0; bytes = 0; last = Absent; tally = no_tally }
+none_passed = record { records = 0; bytes = 0; last = None; tally = no_tally }
 
 -- and with some more
 abbrev pub more_passed : Corridor → Boundaries → Passed → List Entry → Passed

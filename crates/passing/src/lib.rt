@@ -5,13 +5,10 @@
 
 ghost use Rattle.std.specs.Prelude.{◌≡◌};
 ghost use Rattle.event.specs.Layout.{width_of};
-ghost use Rattle.season.specs.Season.{plus};
 ghost use Rattle.passing.specs.Passing.{none_passed, passed_over};
 
 use event::Layout;
-use record::Standing;
 use season::{Boundaries, Corridor};
-use summary::Seconds;
 use tally::Tally;
 
 // What good records left: how many they are and how many bytes they have, the seconds of the last, and the tally. It goes by value.
@@ -19,12 +16,12 @@ use tally::Tally;
 pub struct Passed {
     pub records: u64,
     pub bytes: u64,
-    pub last: Seconds,
+    pub last: Option<u32>,
     pub tally: Tally,
 }
 
 // What is passed, and the place of the bytes behind it.
-#[derive(Drop)]
+#[derive(Clone, Copy)]
 pub struct Pass {
     pub passed: Passed,
     pub at: usize,
@@ -37,23 +34,8 @@ pub fn nothing() -> Passed
     Passed {
         records: 0,
         bytes: 0,
-        last: Seconds::Absent,
+        last: None,
         tally: tally::nothing(),
-    }
-}
-
-// What is passed behind x: n records up to a place, the last of these seconds, and the tally of all.
-fn behind(x: Passed, at: usize, n: usize, last: Seconds, tally: Tally) -> Pass
-    ensures { result ≡ record { passed = record { records = plus x.records n; bytes = plus x.bytes at; last = last; tally = tally }; at = at } }
-{
-    Pass {
-        passed: Passed {
-            records: season::plus(x.records, n as u64),
-            bytes: season::plus(x.bytes, at as u64),
-            last,
-            tally,
-        },
-        at,
     }
 }
 
@@ -65,16 +47,20 @@ pub fn over(layout: Layout, s: &[u8], who: Corridor, b: Boundaries, x: Passed) -
     let mut n: usize = 0;
     let mut last = x.last;
     let mut tally = x.tally;
-    while at < s.len() {
-        let r = capture::follow(layout, s, at, last);
-        let Standing::Good(y) = r else {
-            return behind(x, at, n, last, tally);
-        };
-        let event = y.event;
-        tally = tally::one_more(who, b, tally, y.seconds, event);
+    // No `for` is plainer: a step is as long as the record that was read.
+    while let Some(y) = capture::follow(layout, s, at, last) {
+        tally = tally::one_more(who, b, tally, y.seconds, y.event);
         at = y.next;
         n += 1;
-        last = Seconds::At(y.seconds);
+        last = Some(y.seconds);
     }
-    behind(x, at, n, last, tally)
+    Pass {
+        passed: Passed {
+            records: season::plus(x.records, n as u64),
+            bytes: season::plus(x.bytes, at as u64),
+            last,
+            tally,
+        },
+        at,
+    }
 }

@@ -4,9 +4,8 @@
 
 ghost use Rattle.std.specs.Prelude.{◌≤◌, ◌≡◌, ◌+◌, length, IfOk};
 
-use filter_plan::{Filters, Verdict, Went};
-use filter_since::Since;
-use plan_wanted::Wanted;
+use filter_plan::{Bad, Filters, Verdict};
+use plan_wanted::NotWanted;
 use std::env::FillError;
 use std::fs::File;
 use std::io;
@@ -33,10 +32,9 @@ const SAID: usize = 128;
 // The system's number for bytes that are no text.
 const NO_TEXT: i32 = 84;
 
-// How a file was read: so many bytes, or not.
+// Why a file was not read.
 #[derive(Drop)]
-enum Got {
-    Bytes(usize),
+enum Unread {
     Failed(io::Error),
     Long,
 }
@@ -55,21 +53,18 @@ fn room() -> [u8; EVENTS]
     [0; EVENTS]
 }
 
-// A line on standard error that ends in a word of the command line.
-fn complain(rt: &HostRuntime, what: &[u8], word: &[u8]) {
+// Two texts on standard error, behind the program's name.
+fn complain_of(rt: &HostRuntime, first: &[u8], second: &[u8]) {
     let err = rt.stderr();
     let _ = err.write_all(b"plan: ");
-    let _ = err.write_all(what);
-    let _ = err.write_all(word);
-    let _ = err.write_all(b"\n");
+    let _ = err.write_all(first);
+    let _ = err.write_all(second);
 }
 
-// One that begins with it.
-fn complain_of(rt: &HostRuntime, word: &[u8], what: &[u8]) {
-    let err = rt.stderr();
-    let _ = err.write_all(b"plan: ");
-    let _ = err.write_all(word);
-    let _ = err.write_all(what);
+// A line on standard error that ends in a word of the command line.
+fn complain(rt: &HostRuntime, what: &[u8], word: &[u8]) {
+    complain_of(rt, what, word);
+    let _ = rt.stderr().write_all(b"\n");
 }
 
 // What std says of an error, and zeros behind it: the system's text, and in brackets the error's number.
@@ -86,7 +81,7 @@ fn said(text: &[u8]) -> usize
 {
     let end = words::until(text, 0, 0);
     let n = words::until(text, 0, b'(');
-    if (n < end) & (0 < n) {
+    if 0 < n && n < end {
         return n - 1;
     }
     end
@@ -151,20 +146,19 @@ fn answer(
             filters.count as u64,
             (wanted.len() / filter_plan::EVENT) as u64,
         ),
-        Verdict::Bad { request, number } => {
-            let s = filter_since::request_at(plan, request);
-            plan_told::bad(out, 0, request as u64, s, number)
+        Verdict::Bad(bad) => {
+            let s = filter_since::request_at(plan, bad.request);
+            plan_told::bad(out, 0, bad.request as u64, s, bad.refusal)
         }
         Verdict::Hidden(j) => {
             let e = filter_since::event_at(wanted, j);
-            let since = filter_since::hidden_since(plan, e.address, e.instance, e.kind);
-            match since {
-                Since::Request(k) => {
+            match filter_since::hidden_since(plan, e.address, e.instance, e.kind) {
+                Some(k) => {
                     let s = filter_since::request_at(plan, k);
                     plan_told::hidden(out, 0, j as u64, e.address, e.instance, e.kind, k as u64, s)
                 }
                 // An event that is hidden after good requests is so since one of them (`since_hidden` of filter_answers).
-                Since::Never => 0,
+                None => 0,
             }
         }
     }
@@ -172,31 +166,25 @@ fn answer(
 
 // Prints the filters, a line for each.
 fn list_each(rt: &impl Print, out: &mut [u8], filters: &Filters) -> bool {
-    let mut i: usize = 0;
-    while i < filter_plan::MOST {
-        if filters.count <= i {
-            return true;
-        }
-        let f = filters.entries[i];
-        let n = filter_text::filter_line(out, 0, f);
+    for f in filters.entries.iter().take(filters.count) {
+        let n = filter_text::filter_line(out, 0, *f);
         if !write(rt, out, n) {
             return false;
         }
-        i += 1;
     }
     true
 }
 
 // Puts how many filters there are.
-fn count(out: &mut [u8], went: Went, n: usize) -> usize {
+fn count(out: &mut [u8], went: Result<(), Bad>, n: usize) -> usize {
     match went {
-        Went::Well => plan_told::left(out, 0, n as u64),
-        Went::Bad { request, number: _ } => plan_told::before(out, 0, request as u64, n as u64),
+        Ok(()) => plan_told::left(out, 0, n as u64),
+        Err(bad) => plan_told::before(out, 0, bad.request as u64, n as u64),
     }
 }
 
 // Prints that, and the filters.
-fn list(rt: &impl Print, out: &mut [u8], went: Went, filters: &Filters) -> bool {
+fn list(rt: &impl Print, out: &mut [u8], went: Result<(), Bad>, filters: &Filters) -> bool {
     let n = count(out, went, filters.count);
     if !write(rt, out, n) {
         return false;
@@ -209,14 +197,9 @@ fn check(rt: &HostRuntime, listed: bool, plan: &[u8], wanted: &[u8]) {
     let mut out = [0u8; ROOM];
     let verdict = filter_plan::check(plan, wanted);
     let left = filter_plan::leaves(plan);
-    let went = left.went;
     let filters = left.filters;
     let n = answer(&mut out, verdict, plan, wanted, &filters);
-    let mut good = write(rt, &out, n);
-    if listed & good {
-        good = list(rt, &mut out, went, &filters);
-    }
-    if !good {
+    if !write(rt, &out, n) || listed && !list(rt, &mut out, left.went, &filters) {
         complain(rt, b"writing standard output failed", b"");
     }
 }
@@ -233,16 +216,15 @@ fn tell_line(rt: &HostRuntime, path: &[u8], n: usize) {
 // The wanted list read, and then the check.
 fn wanted(rt: &HostRuntime, listed: bool, plan: &[u8], path: &[u8], text: &[u8]) {
     let mut events = room();
-    let r = plan_wanted::read(text, &mut events);
-    match r {
-        Wanted::Bytes(n) => {
+    match plan_wanted::read(text, &mut events) {
+        Ok(n) => {
             if n <= EVENTS {
                 check(rt, listed, plan, &events[..n]);
             }
         }
-        Wanted::BadLine(n) => tell_line(rt, path, n),
+        Err(NotWanted::BadLine(n)) => tell_line(rt, path, n),
         // There is room for all that a text of this size can say.
-        Wanted::Full => complain_of(rt, path, b": too many wanted events\n"),
+        Err(NotWanted::Full) => complain_of(rt, path, b": too many wanted events\n"),
     }
 }
 
@@ -255,19 +237,19 @@ fn read_behind(input: &mut impl Read, buf: &mut [u8], n: usize) -> io::Result<us
 }
 
 // Reads a file to its end, or until there is no room. (The loop has to count: nothing says that input ends.)
-fn read_all(input: &mut impl Read, buf: &mut [u8]) -> Got {
+fn read_all(input: &mut impl Read, buf: &mut [u8]) -> Result<usize, Unread> {
     let mut n: usize = 0;
     for _ in 0..u64::MAX {
         if buf.len() <= n {
-            return Got::Long;
+            return Err(Unread::Long);
         }
         match read_behind(input, buf, n) {
-            Ok(0) => return Got::Bytes(n),
+            Ok(0) => return Ok(n),
             Ok(k) => n += k,
-            Err(e) => return Got::Failed(e),
+            Err(e) => return Err(Unread::Failed(e)),
         }
     }
-    Got::Long
+    Err(Unread::Long)
 }
 
 // Opens a file. (std takes text alone for a file's name: of other bytes is told what the system says where it takes none.)
@@ -278,31 +260,30 @@ fn open(rt: &HostRuntime, path: &[u8]) -> io::Result<File> {
     }
 }
 
-// Tells why a file was not read.
-fn tell(rt: &HostRuntime, path: &[u8], got: &Got) {
-    match got {
-        Got::Failed(e) => fail(rt, b"plan: reading ", path, e),
-        Got::Long => complain_of(rt, path, b": more than 1048576 bytes\n"),
-        Got::Bytes(_) => (),
+// How many bytes were read of a file; or says why none.
+fn told(rt: &HostRuntime, path: &[u8], read: Result<usize, Unread>) -> Option<usize> {
+    match read {
+        Ok(n) => return Some(n),
+        Err(Unread::Failed(e)) => fail(rt, b"plan: reading ", path, &e),
+        Err(Unread::Long) => complain_of(rt, path, b": more than 1048576 bytes\n"),
     }
+    None
 }
 
 // Opens a file, or takes standard input for it, and reads it; or says what failed.
-fn load(rt: &HostRuntime, path: &[u8], buf: &mut [u8]) -> Got {
+fn load(rt: &HostRuntime, path: &[u8], buf: &mut [u8]) -> Option<usize> {
     if options::is_input(path) {
-        let got = read_all(&mut rt.stdin(), buf);
-        tell(rt, path, &got);
-        return got;
+        let read = read_all(&mut rt.stdin(), buf);
+        return told(rt, path, read);
     }
     match open(rt, path) {
         Ok(mut file) => {
-            let got = read_all(&mut file, buf);
-            tell(rt, path, &got);
-            got
+            let read = read_all(&mut file, buf);
+            told(rt, path, read)
         }
         Err(e) => {
             fail(rt, b"plan: ", path, &e);
-            Got::Failed(e)
+            None
         }
     }
 }
@@ -310,8 +291,7 @@ fn load(rt: &HostRuntime, path: &[u8], buf: &mut [u8]) -> Got {
 // The wanted list loaded.
 fn then(rt: &HostRuntime, listed: bool, plan: &[u8], path: &[u8]) {
     let mut buf = space();
-    let got = load(rt, path, &mut buf);
-    let Got::Bytes(n) = got else {
+    let Some(n) = load(rt, path, &mut buf) else {
         return;
     };
     if n <= SPACE {
@@ -322,8 +302,7 @@ fn then(rt: &HostRuntime, listed: bool, plan: &[u8], path: &[u8]) {
 // The plan loaded, and then the wanted list.
 fn first(rt: &HostRuntime, listed: bool, plan: &[u8], path: &[u8]) {
     let mut buf = space();
-    let got = load(rt, plan, &mut buf);
-    let Got::Bytes(n) = got else {
+    let Some(n) = load(rt, plan, &mut buf) else {
         return;
     };
     if n <= SPACE {
@@ -340,7 +319,7 @@ fn has_argument(rt: &impl Env, i: usize) -> bool {
 fn go(rt: &HostRuntime, listed: bool, i: usize)
     requires { i ≤ 2 }
 {
-    if !has_argument(rt, i + 1) | has_argument(rt, i + 2) {
+    if !has_argument(rt, i + 1) || has_argument(rt, i + 2) {
         complain(
             rt,
             b"2 arguments are wanted behind the option, if there is one; plan --help names them",
@@ -354,7 +333,7 @@ fn go(rt: &HostRuntime, listed: bool, i: usize)
         complain(rt, b"an argument is too long", b"");
         return;
     };
-    if options::is_input(&plan[..n]) & options::is_input(&list[..m]) {
+    if options::is_input(&plan[..n]) && options::is_input(&list[..m]) {
         complain(rt, b"only one of the two files can be standard input", b"");
         return;
     }

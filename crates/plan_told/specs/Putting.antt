@@ -1,6 +1,8 @@
--- Bytes of a request that are not there.
-use Rattle.std.specs.Prelude.{ℕ, ◌≤◌, ◌≡◌, refl, List, [], ◌∷◌, length}
-use Rattle.std.proofs.Common.{sym, arith}
+-- Bytes of a request that are not there, numbers of other refusals, and what is no change that adds.
+use Rattle.std.specs.Prelude.{ℕ, ◌≤◌, ◌≡◌, refl, false, List, [], ◌∷◌, length, eqb}
+use Rattle.std.proofs.Common.{sym, ne_eqb, arith}
+use Rattle.refusal.specs.Refusals.{number_of, number_one}
+use Rattle.refusal.specs.declared.Refusal.{Refusal}
 use Rattle.std.proofs.Math.ListN.{get_or-eq_default}
 use Rattle.sum.specs.Sum.{sum_from}
 use Rattle.frame.specs.Frame.{byte}
@@ -15,3 +17,7 @@ pub last_none : (s : List ℕ) → length s ≡ 0 → 0 ≡ last_of s
 unfolding sum_from
 last_none [] h = refl
 last_none (b ∷ s) h = absurd (omega arith)
+
+-- another refusal has another number
+pub number_not : (r q : Refusal) → (r ≡ q → ⊥) → eqb (number_of r) (number_of q) ≡ false
+number_not r q h = ne_eqb (number_of r) (number_of q) (λ e. h (number_one r q e))

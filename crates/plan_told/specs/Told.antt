@@ -9,7 +9,9 @@ use Rattle.frame.specs.Frame.{byte, unsealed}
 use Rattle.text.specs.Text.{hex_of, decimal_of}
 use Rattle.names.specs.Names.{name_text}
 use Rattle.filter_asked.specs.declared.Filter.{Filter}
-use Rattle.filter_asked.specs.Asked.{Change, add, clear, asked}
+use Rattle.filter_asked.specs.declared.Change.{Change}
+use Rattle.filter_asked.specs.declared.Change.TheVariants.{Add as add, Clear as clear}
+use Rattle.filter_asked.specs.Asked.{asked}
 use Rattle.filter_text.specs.Told.{placed_texts, type_texts, instance_texts, line_texts, exchanged, slipped_texts}
 
 -- "request K adds FILTER"

@@ -5,22 +5,21 @@
 #![tactic(auto)]
 
 ghost use Rattle.std.specs.Prelude.{◌≡◌};
+ghost use Rattle.refusal.specs.Refusals.{number_of};
 ghost use Rattle.frame.specs.Frame.{byte};
 ghost use Rattle.lent.specs.All.{PutsAll};
 ghost use Rattle.plan_told.specs.Told.{last_of, adds_texts, since_texts, added_texts};
 ghost use Rattle.plan_told.specs.Told.{unknown_texts, length_texts, sum_texts, range_texts, argument_texts, other_texts, reason_texts, number_texts, too_many_texts};
 ghost use Rattle.plan_told.specs.Told.{yes_texts, bad_texts, wanted_texts, hidden_texts, left_texts, before_texts, bad_line_texts};
 
-use filter_asked::{Asked, Filter};
+use filter_asked::{Change, Filter};
+use refusal::Refusal;
 
 // A byte of a request, 0 where it has none there.
 fn byte_at(s: &[u8], i: usize) -> u8
     ensures { result ≡ byte i s.now }
 {
-    if s.len() <= i {
-        return 0;
-    }
-    s[i]
+    s.get(i).copied().unwrap_or(0)
 }
 
 // What its last byte has to be.
@@ -48,14 +47,13 @@ fn adds(out: &mut [u8], at: usize, k: u64, f: Filter) -> usize
 fn since(out: &mut [u8], at: usize, k: u64, t: u8, s: &[u8]) -> usize
     ensures { PutsAll (since_texts k t s.now) out.old at result out.new }
 {
-    let asked = filter_asked::read(s);
-    match asked {
-        Asked::Add(f) => {
+    match filter_asked::read(s) {
+        Ok(Change::Add(f)) => {
             let a = adds(out, at, k, f);
             filter_text::slipped(out, a, t, filter_text::exchange(f))
         }
-        Asked::Clear(_) => at,
-        Asked::Refused(_) => at,
+        Ok(Change::Clear(_)) => at,
+        Err(_) => at,
     }
 }
 
@@ -63,11 +61,10 @@ fn since(out: &mut [u8], at: usize, k: u64, t: u8, s: &[u8]) -> usize
 fn added(out: &mut [u8], at: usize, k: u64, s: &[u8]) -> usize
     ensures { PutsAll (added_texts k s.now) out.old at result out.new }
 {
-    let asked = filter_asked::read(s);
-    match asked {
-        Asked::Add(f) => adds(out, at, k, f),
-        Asked::Clear(_) => at,
-        Asked::Refused(_) => at,
+    match filter_asked::read(s) {
+        Ok(Change::Add(f)) => adds(out, at, k, f),
+        Ok(Change::Clear(_)) => at,
+        Err(_) => at,
     }
 }
 
@@ -117,10 +114,7 @@ fn argument(out: &mut [u8], at: usize, s: &[u8]) -> usize
     ensures { PutsAll (argument_texts s.now) out.old at result out.new }
 {
     let command = byte_at(s, 2);
-    if command == filter_asked::ADD {
-        return of_range(out, at, s);
-    }
-    if command == filter_asked::CLEAR {
+    if command == filter_asked::ADD || command == filter_asked::CLEAR {
         return of_range(out, at, s);
     }
     let a = lent::word(out, at, b"an argument of command ");
@@ -140,48 +134,33 @@ fn other(out: &mut [u8], at: usize, s: &[u8]) -> usize
     lent::word(out, d, b" sets no filter, a plan has 31 and 33 only")
 }
 
-// The reason, by the refusal's number.
-fn reason(out: &mut [u8], at: usize, number: u8, s: &[u8]) -> usize
-    ensures { PutsAll (reason_texts number s.now) out.old at result out.new }
+// The reason. A plan has no other refusal.
+fn reason(out: &mut [u8], at: usize, refusal: Refusal, s: &[u8]) -> usize
+    ensures { PutsAll (reason_texts (number_of refusal) s.now) out.old at result out.new }
 {
-    if number == 1 {
-        return lent::word(out, at, b"the plan ends inside it, a request has 8 bytes");
-    }
-    if number == 2 {
-        return lent::word(out, at, b"a request begins with 04");
-    }
-    if number == 3 {
-        return unknown(out, at, s);
-    }
-    if number == 4 {
-        return of_length(out, at, s);
-    }
-    if number == 5 {
-        return of_length(out, at, s);
-    }
-    if number == 6 {
-        return of_sum(out, at, s);
-    }
-    if number == 7 {
-        return argument(out, at, s);
-    }
-    if number == 18 {
-        return other(out, at, s);
-    }
-    if number == 19 {
-        return lent::word(
+    match refusal {
+        Refusal::TooShort => lent::word(out, at, b"the plan ends inside it, a request has 8 bytes"),
+        Refusal::BadLead => lent::word(out, at, b"a request begins with 04"),
+        Refusal::UnknownCommand => unknown(out, at, s),
+        Refusal::BadLengthByte => of_length(out, at, s),
+        Refusal::BadLength => of_length(out, at, s),
+        Refusal::BadSum => of_sum(out, at, s),
+        Refusal::BadArgument => argument(out, at, s),
+        Refusal::NotAFilter => other(out, at, s),
+        Refusal::FiltersFull => lent::word(
             out,
             at,
             b"a 65th filter is needed, and a controller keeps 64",
-        );
+        ),
+        _ => at,
     }
-    at
 }
 
 // Puts a refusal's number and its name.
-fn numbered(out: &mut [u8], at: usize, number: u8) -> usize
-    ensures { PutsAll (number_texts number) out.old at result out.new }
+fn numbered(out: &mut [u8], at: usize, refusal: Refusal) -> usize
+    ensures { PutsAll (number_texts (number_of refusal)) out.old at result out.new }
 {
+    let number = refusal.number();
     let a = lent::word(out, at, b": ");
     let b = text::decimal(out, a, number as u64);
     let c = lent::word(out, b, b" ");
@@ -190,25 +169,25 @@ fn numbered(out: &mut [u8], at: usize, number: u8) -> usize
 }
 
 // Puts the second line, where there is one.
-fn too_many(out: &mut [u8], at: usize, k: u64, number: u8, s: &[u8]) -> usize
-    ensures { PutsAll (too_many_texts k number s.now) out.old at result out.new }
+fn too_many(out: &mut [u8], at: usize, k: u64, refusal: Refusal, s: &[u8]) -> usize
+    ensures { PutsAll (too_many_texts k (number_of refusal) s.now) out.old at result out.new }
 {
-    if number == 19 {
-        return added(out, at, k, s);
+    match refusal {
+        Refusal::FiltersFull => added(out, at, k, s),
+        _ => at,
     }
-    at
 }
 
 // Puts the answer about the first bad request: its place among the requests, its bytes, and the refusal.
-pub fn bad(out: &mut [u8], at: usize, k: u64, s: &[u8], number: u8) -> usize
-    ensures { PutsAll (bad_texts k s.now number) out.old at result out.new }
+pub fn bad(out: &mut [u8], at: usize, k: u64, s: &[u8], refusal: Refusal) -> usize
+    ensures { PutsAll (bad_texts k s.now (number_of refusal)) out.old at result out.new }
 {
     let a = lent::word(out, at, b"no: ");
     let b = filter_text::placed(out, a, k, s);
-    let c = numbered(out, b, number);
-    let d = reason(out, c, number, s);
+    let c = numbered(out, b, refusal);
+    let d = reason(out, c, refusal, s);
     let e = lent::byte(out, d, b'\n');
-    too_many(out, e, k, number, s)
+    too_many(out, e, k, refusal, s)
 }
 
 // Puts which wanted event.

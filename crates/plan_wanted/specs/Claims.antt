@@ -1,10 +1,10 @@
 -- What is claimed of a text: worked examples.
-use Rattle.std.specs.Prelude.{ℕ, ◌≡◌, refl, List, [], ◌∷◌, ◌++◌}
+use Rattle.std.specs.Prelude.{ℕ, Ok, Err, ◌≡◌, refl, List, [], ◌∷◌, ◌++◌}
 use Rattle.words.specs.Words.{text}
 use Rattle.text.specs.Decimal.{value_from}
 use Rattle.asked.specs.Asked.{all_digits, number_of}
 use Rattle.plan_wanted.specs.declared.Line.TheVariants.{Nothing, Says, Bad}
-use Rattle.plan_wanted.specs.declared.Wanted.TheVariants.{Bytes, BadLine, Full}
+use Rattle.plan_wanted.specs.declared.NotWanted.TheVariants.{BadLine, Full}
 use Rattle.plan_wanted.specs.Wanted.{cut_at, lines_of, words_of, line_of, event, events, all_of, told_by, answer_of, left_by}
 
 -- an empty text has no line, one line feed ends a line without a byte, and a byte behind the last line feed makes a line
@@ -55,18 +55,18 @@ unfolding lobby cut_at all_of line_of number_of all_digits value_from
 lobby_told = refl
 
 -- its answer over seven bytes, of which the last stays; and over five, which are too few
-pub lobby_put : (answer_of (told_by lobby) (1 ∷ 1 ∷ 1 ∷ 1 ∷ 1 ∷ 1 ∷ 1 ∷ []) ≡ Bytes 6) × (left_by (told_by lobby) (1 ∷ 1 ∷ 1 ∷ 1 ∷ 1 ∷ 1 ∷ 1 ∷ []) ≡ 64 ∷ 0 ∷ 2 ∷ 5 ∷ 255 ∷ 15 ∷ 1 ∷ [])
+pub lobby_put : (answer_of (told_by lobby) (1 ∷ 1 ∷ 1 ∷ 1 ∷ 1 ∷ 1 ∷ 1 ∷ []) ≡ Ok 6) × (left_by (told_by lobby) (1 ∷ 1 ∷ 1 ∷ 1 ∷ 1 ∷ 1 ∷ 1 ∷ []) ≡ 64 ∷ 0 ∷ 2 ∷ 5 ∷ 255 ∷ 15 ∷ 1 ∷ [])
 lobby_put = rw lobby_told (refl, refl)
 
-pub lobby_full : (answer_of (told_by lobby) (1 ∷ 1 ∷ 1 ∷ 1 ∷ 1 ∷ []) ≡ Full) × (left_by (told_by lobby) (1 ∷ 1 ∷ 1 ∷ 1 ∷ 1 ∷ []) ≡ 1 ∷ 1 ∷ 1 ∷ 1 ∷ 1 ∷ [])
+pub lobby_full : (answer_of (told_by lobby) (1 ∷ 1 ∷ 1 ∷ 1 ∷ 1 ∷ []) ≡ Err Full) × (left_by (told_by lobby) (1 ∷ 1 ∷ 1 ∷ 1 ∷ 1 ∷ []) ≡ 1 ∷ 1 ∷ 1 ∷ 1 ∷ 1 ∷ [])
 lobby_full = rw lobby_told (refl, refl)
 
 -- the second line is bad, and so is the third, which does not matter
-pub second_bad : answer_of (told_by (text "64 0 2" ++ 10 ∷ text "64 0 x" ++ 10 ∷ text "64" ++ 10 ∷ [])) [] ≡ BadLine 2
+pub second_bad : answer_of (told_by (text "64 0 2" ++ 10 ∷ text "64 0 x" ++ 10 ∷ text "64" ++ 10 ∷ [])) [] ≡ Err (BadLine 2)
 unfolding cut_at all_of line_of number_of all_digits value_from
 second_bad = refl
 
 -- an empty text wants nothing
-pub nothing_wanted : answer_of (told_by []) [] ≡ Bytes 0
+pub nothing_wanted : answer_of (told_by []) [] ≡ Ok 0
 unfolding cut_at all_of
 nothing_wanted = refl

@@ -1,48 +1,46 @@
 -- A line judged by the places of its words.
-use Rattle.std.specs.Prelude.{ℕ, ◌+◌, ◌-◌, ◌≤◌, ◌<◌, ◌≡◌, refl, Bool, true, false, ◌&&◌, length, get_or, take, drop, eqb, leb}
+use Rattle.std.specs.Prelude.{ℕ, Option, Some, None, ◌+◌, ◌-◌, ◌≤◌, ◌<◌, ◌≡◌, refl, Bool, true, false, ◌&&◌, length, get_or, take, drop, eqb, leb}
 use Rattle.std.proofs.Math.Path.{sym, ap}
 use Rattle.std.proofs.Common.{◌∙◌, drop_of_length-le, eq-eqb, ne_eqb, leb-true, leb-false, arith}
 use mathlib.Core.List.{List, [], ◌∷◌}
 use Rattle.refusal.specs.Test.{pick}
-use Rattle.asked.specs.declared.Number.{Number}
-use Rattle.asked.specs.declared.Number.TheVariants.{Of, Not}
 use Rattle.asked.specs.Asked.{number_of, is_number, value_of}
 use Rattle.plan_wanted.specs.declared.Line.TheVariants.{Nothing, Bad}
 use Rattle.plan_wanted.specs.Wanted.{words_of, says_of, three_of, is_remark, by_words, line_of}
 use Rattle.plan_wanted.specs.Places.{ahead, is_kind, word_none, word_first, word_turn}
 
 -- a number of a word is a byte
-abbrev pub is_byte : Number → Type 0
-is_byte (Of n) = n ≤ 255
-is_byte Not = 0 ≤ 255
+abbrev pub is_byte : Option ℕ → Type 0
+is_byte (Some n) = n ≤ 255
+is_byte None = 0 ≤ 255
 
 pub number_byte : (w : List ℕ) → is_byte (number_of 255 w)
 unfolding number_of
 number_byte w = go (is_number w) (leb (value_of w) 255) refl
   where
-    go : (x y : Bool) → leb (value_of w) 255 ≡ y → is_byte (pick (x && y) (Of (value_of w)) Not)
+    go : (x y : Bool) → leb (value_of w) 255 ≡ y → is_byte (pick (x && y) (Some (value_of w)) None)
     go true true e = leb-true (value_of w) 255 e
     go true false e = omega arith
     go false y e = omega arith
 
-pub byte_most : {x : Number} {n : ℕ} → is_byte x → x ≡ Of n → n ≤ 255
+pub byte_most : {x : Option ℕ} {n : ℕ} → is_byte x → x ≡ Some n → n ≤ 255
 byte_most h e = rw e at h
 
 -- no word says no number, and without one a line says nothing
-number_no : number_of 255 [] ≡ Not
+number_no : number_of 255 [] ≡ None
 unfolding number_of
 number_no = refl
 
-says_second : (x z : Number) → says_of x Not z ≡ Bad
-says_second (Of a) z = refl
-says_second Not z = refl
+says_second : (x z : Option ℕ) → says_of x None z ≡ Bad
+says_second (Some a) z = refl
+says_second None z = refl
 
-says_third : (x y : Number) → says_of x y Not ≡ Bad
-says_third (Of a) (Of i) = refl
-says_third (Of a) Not = refl
-says_third Not y = refl
+says_third : (x y : Option ℕ) → says_of x y None ≡ Bad
+says_third (Some a) (Some i) = refl
+says_third (Some a) None = refl
+says_third None y = refl
 
-part_none : (s : List ℕ) (a b : ℕ) → length s ≤ a → b ≡ a + ahead (is_kind true) (drop a s) → number_of 255 (take (b - a) (drop a s)) ≡ Not
+part_none : (s : List ℕ) (a b : ℕ) → length s ≤ a → b ≡ a + ahead (is_kind true) (drop a s) → number_of 255 (take (b - a) (drop a s)) ≡ None
 unfolding ahead
 part_none s a b h q =
     let d : drop a s ≡ [] = drop_of_length-le s h in
@@ -99,12 +97,12 @@ module _ (s : List ℕ) (a : ℕ) (p : a ≡ 0 + ahead (is_kind false) (drop 0 s
           go true i m j =
               let l : length s ≤ c = leb-true (length s) c i in
               ap (λ (ws : List (List ℕ)). three_of (x ∷ ws)) (word_none s b c r l)
-              ∙ sym (ap (λ (o : Number). says_of (number_of 255 x) o (number_of 255 z)) (part_none s c d l t) ∙ says_second (number_of 255 x) (number_of 255 z))
+              ∙ sym (ap (λ (o : Option ℕ). says_of (number_of 255 x) o (number_of 255 z)) (part_none s c d l t) ∙ says_second (number_of 255 x) (number_of 255 z))
           go false i true j =
               let l : length s ≤ e = leb-true (length s) e j in
               ap (λ (ws : List (List ℕ)). three_of (x ∷ ws)) (word_turn s b c r (leb-false (length s) c i) d t)
               ∙ ap (λ (ws : List (List ℕ)). three_of (x ∷ y ∷ ws)) (word_none s d e u l)
-              ∙ sym (ap (λ (o : Number). says_of (number_of 255 x) (number_of 255 y) o) (part_none s e f l v) ∙ says_third (number_of 255 x) (number_of 255 y))
+              ∙ sym (ap (λ (o : Option ℕ). says_of (number_of 255 x) (number_of 255 y) o) (part_none s e f l v) ∙ says_third (number_of 255 x) (number_of 255 y))
           go false i false j =
               ap (λ (ws : List (List ℕ)). three_of (x ∷ ws)) (word_turn s b c r (leb-false (length s) c i) d t)
               ∙ ap (λ (ws : List (List ℕ)). three_of (x ∷ y ∷ ws)) (word_turn s d e u (leb-false (length s) e j) f v)

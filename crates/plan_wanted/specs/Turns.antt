@@ -1,6 +1,6 @@
 -- A text judged and put line by line: what is left gives the whole.
 use Prim.Native.Nat.{ℕ, suc, ◌+◌, ◌-◌, ◌*◌, ◌/◌, ◌≤◌, ◌<◌}
-use Rattle.std.specs.Prelude.{◌≡◌, Bool, true, List, [], ◌∷◌, ◌++◌, take, drop}
+use Rattle.std.specs.Prelude.{◌≡◌, Result, Ok, Err, Bool, true, List, [], ◌∷◌, ◌++◌, take, drop}
 use Rattle.std.proofs.Math.Path.{refl, ap}
 use Rattle.std.proofs.Common.{sym, ◌∙◌}
 use Rattle.std.proofs.Math.Bool.{false}
@@ -14,9 +14,8 @@ use Rattle.lent.specs.Puts.{fits, over_none, Puts}
 use Rattle.lent.specs.Over.{puts_room, puts_length, puts_then}
 use Rattle.plan_wanted.specs.declared.Line.{Line}
 use Rattle.plan_wanted.specs.declared.Line.TheVariants.{Nothing, Says, Bad}
-use Rattle.plan_wanted.specs.declared.Judged.{Judged}
-use Rattle.plan_wanted.specs.declared.Judged.TheVariants.{Events, BadLine as Judged-bad-line}
-use Rattle.plan_wanted.specs.declared.Wanted.TheVariants.{Bytes, BadLine, Full}
+use Rattle.plan_wanted.specs.declared.NotWanted.{NotWanted}
+use Rattle.plan_wanted.specs.declared.NotWanted.TheVariants.{BadLine, Full}
 use Rattle.plan_wanted.specs.Wanted.{line_of, Event, event, Told, events, bad, in_front, all_of, told_by, bytes_of, answer_of, left_by, Reads}
 use Rattle.plan_wanted.specs.Places.{line_turn, line_done}
 
@@ -34,17 +33,17 @@ module _ (s : List ℕ) (i : ℕ) where
   rest_done h = ap all_of (line_done s i h)
 
 -- the events counted behind n lines with k events
-unfoldable pub tally : ℕ → ℕ → Told → Judged
-tally n k (events es) = Events (k + length es)
-tally n k (bad m) = Judged-bad-line (n + m)
+unfoldable pub tally : ℕ → ℕ → Told → Result ℕ NotWanted
+tally n k (events es) = Ok (k + length es)
+tally n k (bad m) = Err (BadLine (n + m))
 
 module _ (n k : ℕ) where
-  pub tally_done : (x : Told) → x ≡ events [] → Events k ≡ tally n k x
+  pub tally_done : (x : Told) → x ≡ events [] → Ok k ≡ tally n k x
   unfolding tally
-  tally_done x p = let e : k ≡ k + 0 = omega arith in rw p (ap Events e)
+  tally_done x p = let e : k ≡ k + 0 = omega arith in rw p (ap Ok e)
 
   module _ (x y : Told) (l : Line) (p : x ≡ in_front l y) where
-    pub tally_bad : l ≡ Bad → Judged-bad-line (n + 1) ≡ tally n k x
+    pub tally_bad : l ≡ Bad → Err (BadLine (n + 1)) ≡ tally n k x
     unfolding tally
     tally_bad q = rw (p, q) refl
 
@@ -54,15 +53,15 @@ module _ (n k : ℕ) where
       where
         go : (z : Told) → tally (n + 1) k z ≡ tally n k (in_front Nothing z)
         go (events es) = refl
-        go (bad j) = let e : n + 1 + j ≡ n + suc j = omega arith in ap Judged-bad-line e
+        go (bad j) = let e : n + 1 + j ≡ n + suc j = omega arith in ap (λ (m : ℕ). Err (BadLine m)) e
 
     pub tally_says : (m a i t : ℕ) → l ≡ Says a i t → m ≡ k + 1 → tally (n + 1) m y ≡ tally n k x
     unfolding tally
     tally_says m a i t q r = rw (p, q, r) (go y)
       where
         go : (z : Told) → tally (n + 1) (k + 1) z ≡ tally n k (in_front (Says a i t) z)
-        go (events es) = let e : k + 1 + length es ≡ k + suc (length es) = omega arith in ap Events e
-        go (bad j) = let e : n + 1 + j ≡ n + suc j = omega arith in ap Judged-bad-line e
+        go (events es) = let e : k + 1 + length es ≡ k + suc (length es) = omega arith in ap Ok e
+        go (bad j) = let e : n + 1 + j ≡ n + suc j = omega arith in ap (λ (m : ℕ). Err (BadLine m)) e
 
 -- the bytes of a line
 abbrev pub bytes_by : Line → List ℕ
@@ -129,21 +128,21 @@ bytes_length : (es : List Event) → length (bytes_of es) ≡ length es * 3
 bytes_length [] = refl
 bytes_length (event a i t ∷ es) = omega (arith, bytes_length es)
 
-module _ (s out : List ℕ) (n : ℕ) where
-  pub read_bad : Judged-bad-line n ≡ tally 0 0 (told_by s) → Reads s out (BadLine n) out
-  unfolding tally
-  read_bad h = let w = go (told_by s) h in record { says = w.0; leaves = w.1 }
-    where
-      go : (x : Told) → Judged-bad-line n ≡ tally 0 0 x → (BadLine n ≡ answer_of x out) × (out ≡ left_by x out)
-      go (events es) e = clash (cc)
-      go (bad m) e = let k : n ≡ 0 + m = cc in (ap BadLine (k ∙ zero-add m), refl)
+pub read_bad : (s out : List ℕ) (x : NotWanted) → Err x ≡ tally 0 0 (told_by s) → Reads s out (Err x) out
+unfolding tally
+read_bad s out x h = let w = go (told_by s) h in record { says = w.0; leaves = w.1 }
+  where
+    go : (y : Told) → Err x ≡ tally 0 0 y → (Err x ≡ answer_of y out) × (out ≡ left_by y out)
+    go (events es) e = clash (cc)
+    go (bad m) e = (e ∙ ap (λ (j : ℕ). Err (BadLine j)) (zero-add m), refl)
 
-  module _ (h : Events n ≡ tally 0 0 (told_by s)) where
-    pub read_full : length out / 3 < n → Reads s out Full out
+module _ (s out : List ℕ) (n : ℕ) where
+  module _ (h : Ok n ≡ tally 0 0 (told_by s)) where
+    pub read_full : length out / 3 < n → Reads s out (Err Full) out
     unfolding tally
     read_full l = let w = go (told_by s) h in record { says = w.0; leaves = w.1 }
       where
-        go : (x : Told) → Events n ≡ tally 0 0 x → (Full ≡ answer_of x out) × (out ≡ left_by x out)
+        go : (x : Told) → Ok n ≡ tally 0 0 x → (Err Full ≡ answer_of x out) × (out ≡ left_by x out)
         go (events es) e =
             let k : n ≡ 0 + length es = cc in
             let f : fits (bytes_of es) out 0 ≡ false = lt-leb (0 + length (bytes_of es)) (length out) (omega (arith, bytes_length es)) in
@@ -154,16 +153,16 @@ module _ (s out : List ℕ) (n : ℕ) where
     unfolding tally
     read_room l = go (told_by s) h
       where
-        go : (x : Told) → Events n ≡ tally 0 0 x → Good x 0 (length out)
+        go : (x : Told) → Ok n ≡ tally 0 0 x → Good x 0 (length out)
         go (events es) e = let k : n ≡ 0 + length es = cc in omega (arith, bytes_length es)
         go (bad m) e = clash (cc)
 
-pub read_put : (s out : List ℕ) (r : ℕ) (o : List ℕ) → Good (told_by s) 0 (length out) → Puts (bytes_in (told_by s)) out 0 r o → Reads s out (Bytes r) o
+pub read_put : (s out : List ℕ) (r : ℕ) (o : List ℕ) → Good (told_by s) 0 (length out) → Puts (bytes_in (told_by s)) out 0 r o → Reads s out (Ok r) o
 read_put s out r o g w = let z = go (told_by s) g w in record { says = z.0; leaves = z.1 }
   where
-    go : (x : Told) → Good x 0 (length out) → Puts (bytes_in x) out 0 r o → (Bytes r ≡ answer_of x out) × (o ≡ left_by x out)
+    go : (x : Told) → Good x 0 (length out) → Puts (bytes_in x) out 0 r o → (Ok r ≡ answer_of x out) × (o ≡ left_by x out)
     go (events es) l v =
         let f : fits (bytes_of es) out 0 ≡ true = le-leb (0 + length (bytes_of es)) (length out) l in
         let k : r ≡ 0 + length (bytes_of es) = (puts_room {t = bytes_of es} {out = out} l v).0 in
-        (rw f (ap Bytes (k ∙ zero-add (length (bytes_of es)))), v.leaves)
+        (rw f (ap Ok (k ∙ zero-add (length (bytes_of es)))), v.leaves)
     go (bad m) l v = absurd (omega arith)

@@ -1,15 +1,13 @@
 -- docs/PLAN.md, "Files": the text that says which events are wanted, as bytes in ASCII.
-use Rattle.std.specs.Prelude.{ℕ, suc, ◌≡◌, Bool, false, ◌||◌, List, [], ◌∷◌, length, eqb}
+use Rattle.std.specs.Prelude.{ℕ, suc, Option, Some, None, Result, Ok, Err, ◌≡◌, Bool, false, ◌||◌, List, [], ◌∷◌, length, eqb}
 use Rattle.std.proofs.Common.{sym, ◌∙◌}
 use Rattle.refusal.specs.Test.{pick}
 use Rattle.lent.specs.Puts.{fits, buffer_after}
-use Rattle.asked.specs.declared.Number.{Number}
-use Rattle.asked.specs.declared.Number.TheVariants.{Of, Not}
 use Rattle.asked.specs.Asked.{number_of}
 use Rattle.plan_wanted.specs.declared.Line.{Line}
 use Rattle.plan_wanted.specs.declared.Line.TheVariants.{Nothing, Says, Bad}
-use Rattle.plan_wanted.specs.declared.Wanted.{Wanted}
-use Rattle.plan_wanted.specs.declared.Wanted.TheVariants.{Bytes, BadLine, Full}
+use Rattle.plan_wanted.specs.declared.NotWanted.{NotWanted}
+use Rattle.plan_wanted.specs.declared.NotWanted.TheVariants.{BadLine, Full}
 
 -- "The text is cut at each line feed; behind the last line feed stands another line only if there is a byte": a run cut at each byte of a
 -- kind. Such a byte ends a part; another byte stands in front of what goes on behind it, or is a part where nothing does
@@ -41,11 +39,11 @@ abbrev pub words_of : List ℕ → List (List ℕ)
 words_of l = some (cut_at is_blank l)
 
 -- "each of decimal digits only that say 0 to 255; leading zeros do not matter": `number_of` of crate asked
-abbrev pub says_of : Number → Number → Number → Line
-says_of (Of a) (Of i) (Of t) = Says a i t
-says_of (Of a) (Of i) Not = Bad
-says_of (Of a) Not t = Bad
-says_of Not i t = Bad
+abbrev pub says_of : Option ℕ → Option ℕ → Option ℕ → Line
+says_of (Some a) (Some i) (Some t) = Says a i t
+says_of (Some a) (Some i) None = Bad
+says_of (Some a) None t = Bad
+says_of None i t = Bad
 
 -- "three words, `address instance type`"
 abbrev pub three_of : List (List ℕ) → Line
@@ -96,19 +94,19 @@ bytes_of [] = []
 bytes_of (event a i t ∷ es) = a ∷ i ∷ t ∷ bytes_of es
 
 -- the answer, and the buffer afterwards: the bytes of the events at its start where they have room, else as it was
-abbrev pub answer_of : Told → List ℕ → Wanted
-answer_of (bad n) out = BadLine n
-answer_of (events es) out = pick (fits (bytes_of es) out 0) (Bytes (length (bytes_of es))) Full
+abbrev pub answer_of : Told → List ℕ → Result ℕ NotWanted
+answer_of (bad n) out = Err (BadLine n)
+answer_of (events es) out = pick (fits (bytes_of es) out 0) (Ok (length (bytes_of es))) (Err Full)
 
 abbrev pub left_by : Told → List ℕ → List ℕ
 left_by (bad n) out = out
 left_by (events es) out = buffer_after (bytes_of es) out 0
 
 -- the contract of `read`
-pub record Reads (s out : List ℕ) (r : Wanted) (out' : List ℕ) : Type 0 where
+pub record Reads (s out : List ℕ) (r : Result ℕ NotWanted) (out' : List ℕ) : Type 0 where
   pub says : r ≡ answer_of (told_by s) out
   pub leaves : out' ≡ left_by (told_by s) out
 
 -- it leaves no choice
-pub reads_one : {s out p q : List ℕ} {r t : Wanted} → Reads s out r p → Reads s out t q → (r ≡ t) × (p ≡ q)
+pub reads_one : {s out p q : List ℕ} {r t : Result ℕ NotWanted} → Reads s out r p → Reads s out t q → (r ≡ t) × (p ≡ q)
 reads_one a b = (a.says ∙ sym b.says, a.leaves ∙ sym b.leaves)

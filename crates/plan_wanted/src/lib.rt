@@ -9,32 +9,22 @@ ghost use Rattle.plan_wanted.specs.Places.{ahead, is_kind};
 ghost use Rattle.plan_wanted.specs.Lines.{is_byte};
 ghost use Rattle.plan_wanted.specs.Turns.{tally, bytes_by, bytes_in, Good};
 
-use asked::Number;
-
 // "that say 0 to 255"
 const MOST: u32 = 255;
 
-// How many bytes were put; or the first line that is bad, counted from 1; or the buffer has no room for the events.
-#[derive(Drop)]
-pub enum Wanted {
-    Bytes(usize),
+// Why no bytes were put: the first line that is bad, counted from 1; or the buffer has no room for the events.
+#[derive(Clone, Copy, Debug, PartialEq, Eq)]
+pub enum NotWanted {
     BadLine(usize),
     Full,
 }
 
 // What a line says: nothing, or an address, an instance and a type; or it is bad.
-#[derive(Drop)]
+#[derive(Clone, Copy)]
 enum Line {
     Nothing,
     Says(u8, u8, u8),
     Bad,
-}
-
-// How many events the lines say, or the first line that is bad.
-#[derive(Drop)]
-enum Judged {
-    Events(usize),
-    BadLine(usize),
 }
 
 // Whether a byte is a blank, or another byte.
@@ -50,28 +40,26 @@ fn next(s: &[u8], from: usize, blank: bool) -> usize
     requires { from ≤ length s.now }
     ensures { (result ≡ from + ahead (is_kind blank) (drop from s.now)) × (result ≤ length s.now) }
 {
-    let mut i = from;
-    while i < s.len() {
+    for i in from..s.len() {
         if is_kind(blank, s[i]) {
             return i;
         }
-        i += 1;
     }
-    i
+    s.len()
 }
 
 // What a line says whose three words say these numbers.
-fn says_of(address: Number, instance: Number, kind: Number) -> Line
+fn says_of(address: Option<u32>, instance: Option<u32>, kind: Option<u32>) -> Line
     requires { is_byte address × is_byte instance × is_byte kind }
     ensures { result ≡ says_of address instance kind }
 {
-    let Number::Of(a) = address else {
+    let Some(a) = address else {
         return Line::Bad;
     };
-    let Number::Of(i) = instance else {
+    let Some(i) = instance else {
         return Line::Bad;
     };
-    let Number::Of(t) = kind else {
+    let Some(t) = kind else {
         return Line::Bad;
     };
     Line::Says(a as u8, i as u8, t as u8)
@@ -102,8 +90,9 @@ fn line_of(s: &[u8]) -> Line
     says_of(address, instance, kind)
 }
 
-// How many events the lines of a text say, or the first line that is bad.
-fn judge(text: &[u8]) -> Judged
+// How many events the lines of a text say, or the first line that is bad. (The place goes on by a line, which no range does: so the loop stays
+// a `while`, here and where the bytes are put.)
+fn judge(text: &[u8]) -> Result<usize, NotWanted>
     ensures { result ≡ tally 0 0 (told_by text.now) }
 {
     let mut i: usize = 0;
@@ -113,7 +102,7 @@ fn judge(text: &[u8]) -> Judged
         let e = words::until(text, i, b'\n');
         let l = line_of(&text[i..e]);
         match l {
-            Line::Bad => return Judged::BadLine(lines + 1),
+            Line::Bad => return Err(NotWanted::BadLine(lines + 1)),
             Line::Nothing => {}
             Line::Says(_, _, _) => {
                 events += 1;
@@ -122,7 +111,7 @@ fn judge(text: &[u8]) -> Judged
         lines += 1;
         i = e + 1;
     }
-    Judged::Events(events)
+    Ok(events)
 }
 
 // Puts the three bytes of a line that says an event, where they have room.
@@ -157,17 +146,12 @@ fn put(text: &[u8], out: &mut [u8]) -> usize
 
 // Reads a text: puts three bytes for each event, its address, instance and type, at the start of a lent buffer. Where a line is bad, or the
 // buffer has no room for all events, no byte of it is changed.
-pub fn read(text: &[u8], out: &mut [u8]) -> Wanted
+pub fn read(text: &[u8], out: &mut [u8]) -> Result<usize, NotWanted>
     ensures { Reads text.now out.old result out.new }
 {
-    let found = judge(text);
-    match found {
-        Judged::BadLine(n) => Wanted::BadLine(n),
-        Judged::Events(n) => {
-            if out.len() / 3 < n {
-                return Wanted::Full;
-            }
-            Wanted::Bytes(put(text, out))
-        }
+    let n = judge(text)?;
+    if out.len() / 3 < n {
+        return Err(NotWanted::Full);
     }
+    Ok(put(text, out))
 }

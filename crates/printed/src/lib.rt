@@ -16,12 +16,9 @@ fn put_bytes(out: &mut [u8], at: usize, s: &[u8]) -> usize
     requires { at + 2 * length s.now ≤ length out.old }
     ensures { Puts (hexes s.now) out.old at result out.new }
 {
-    let mut i: usize = 0;
-    while i < s.len() {
-        let b = s[i];
+    for (i, &b) in s.iter().enumerate() {
         out[at + 2 * i] = text::high_digit(b);
         out[at + 2 * i + 1] = text::low_digit(b);
-        i += 1;
     }
     at + 2 * s.len()
 }
@@ -31,16 +28,16 @@ fn put_head(out: &mut [u8], at: usize, number: u8, n: usize) -> usize
     requires { (number < 10) × (n < 100) × (at + 5 ≤ length out.old) }
     ensures { Puts (head_of number n) out.old at result out.new }
 {
-    out[at] = 48 + number;
-    out[at + 1] = 32;
+    out[at] = b'0' + number;
+    out[at + 1] = b' ';
     if n < 10 {
-        out[at + 2] = 48 + (n as u8);
-        out[at + 3] = 32;
+        out[at + 2] = b'0' + (n as u8);
+        out[at + 3] = b' ';
         return at + 4;
     }
-    out[at + 2] = 48 + ((n / 10) as u8);
-    out[at + 3] = 48 + ((n % 10) as u8);
-    out[at + 4] = 32;
+    out[at + 2] = b'0' + ((n / 10) as u8);
+    out[at + 3] = b'0' + ((n % 10) as u8);
+    out[at + 4] = b' ';
     at + 5
 }
 
@@ -66,7 +63,7 @@ fn short_line(out: &mut [u8], at: usize, number: u8, s: &[u8]) -> usize
     }
     let h = put_head(out, at, number, s.len());
     let e = put_bytes(out, h, s);
-    out[e] = 10;
+    out[e] = b'\n';
     e + 1
 }
 
@@ -76,9 +73,9 @@ fn long_head(out: &mut [u8], number: u8, n: usize) -> usize
     ensures { Puts (head_of number n) out.old 0 result out.new }
 {
     let a = text::decimal(out, 0, number as u64);
-    let b = lent::byte(out, a, 32);
+    let b = lent::byte(out, a, b' ');
     let c = text::decimal(out, b, n as u64);
-    lent::byte(out, c, 32)
+    lent::byte(out, c, b' ')
 }
 
 // Puts the line of any item. What stands in front of its bytes is made aside first: only its length tells the room.
@@ -99,7 +96,7 @@ fn long_line(out: &mut [u8], at: usize, number: u8, s: &[u8]) -> usize
     }
     let h = lent::word(out, at, &head[..size]);
     let e = put_bytes(out, h, s);
-    out[e] = 10;
+    out[e] = b'\n';
     e + 1
 }
 
@@ -108,10 +105,7 @@ fn long_line(out: &mut [u8], at: usize, number: u8, s: &[u8]) -> usize
 pub fn put_line(out: &mut [u8], at: usize, number: u8, s: &[u8]) -> usize
     ensures { Puts (line_of (reading number s.now)) out.old at result out.new }
 {
-    if 9 < number {
-        return long_line(out, at, number, s);
-    }
-    if 99 < s.len() {
+    if 9 < number || 99 < s.len() {
         return long_line(out, at, number, s);
     }
     if s.len() == 1 {

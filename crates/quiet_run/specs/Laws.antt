@@ -1,6 +1,7 @@
 -- What a scan finds: of a closed run the first item that is not quiet; of an open one as much as the bytes at hand settle, whatever comes
 -- behind them.
-use Rattle.std.specs.Prelude.{ℕ, zero, suc, ◌+◌, ◌-◌, ◌≤◌, ◌<◌, ◌≡◌, refl, Bool, true, false, List, [], ◌∷◌, ◌++◌, length, take, drop}
+use Rattle.std.specs.Prelude.{ℕ, zero, suc, ◌+◌, ◌-◌, ◌≤◌, ◌<◌, ◌≡◌, refl, Bool, true, false, List, [], ◌∷◌, ◌++◌, length, take, drop, not, Option, Some, None, is_some, Result, Ok, Err}
+use Rattle.std.specs.Result.{result_err}
 use Rattle.std.proofs.Common.{sym, ap, ◌∙◌, length-drop, drop-drop, length-take-le, add_assoc, add-zero, arith}
 use Rattle.std.proofs.Math.Nat.{sub-zero}
 use Rattle.refusal.specs.Test.{pick, clash}
@@ -11,10 +12,9 @@ use Rattle.extent.specs.Line.{cap_of}
 use Rattle.line.specs.Rule.{item_at, settle}
 use Rattle.line.specs.Laws.{lawful, waits_few}
 use Rattle.line.specs.Says.{item_at_lem, nothing_at, stands_at, items_end, items_at}
-use Rattle.quiet_run.specs.declared.Scanned.{Scanned}
-use Rattle.quiet_run.specs.declared.Scanned.TheVariants.{Past, Loud}
+use Rattle.quiet_run.specs.declared.Loud.{Loud}
 use Rattle.quiet_run.specs.Quiet.{is_quiet, all_quiet, quiet_run, First, none, loud, first_loud}
-use Rattle.quiet_run.specs.Scan.{scan_from, scanned}
+use Rattle.quiet_run.specs.Scan.{loud_at, scan_from, scanned, said_first}
 use Rattle.quiet_run.specs.Scanning.{scan_cases}
 
 -- items are all quiet exactly if none is the first that is not
@@ -77,9 +77,9 @@ front_open p s t k m e =
     ∙ front p s k m (items (settle Request) (drop m s ++ t)) (stands_at Request false s k m e).3
 
 -- what a scan of a closed run says of the first item that is not quiet
-abbrev pub first_of : Scanned → First
-first_of (Past j) = none
-first_of (Loud at k m) = loud at k m
+abbrev pub first_of : Result ℕ Loud → First
+first_of (Ok j) = none
+first_of (Err x) = loud x.place x.number x.size
 
 closed_none : (p : ℕ) (s : List ℕ) → item_at Request true s ≡ nothing → first_loud p (items (settle Request) s) ≡ none
 unfolding first_loud
@@ -111,10 +111,10 @@ waiting : (s : List ℕ) → item_at Request false s ≡ nothing → length s �
 waiting [] e = omega arith
 waiting (b ∷ s) e = waits_few Request (b ∷ s) (nothing_at Request false (b ∷ s) e (omega arith)).1
 
-past_same : {j at : ℕ} → Past at ≡ Past j → at ≡ j
+past_same : {j at : ℕ} → ◌≡◌ {A = Result ℕ Loud} (Ok at) (Ok j) → at ≡ j
 past_same e = cc
 
-passed : (t : List ℕ) (n p at j : ℕ) (s : List ℕ) → length s < n → scan_from false at s ≡ Past j → Passed p at j s t
+passed : (t : List ℕ) (n p at j : ℕ) (s : List ℕ) → length s < n → scan_from false at s ≡ Ok j → Passed p at j s t
 passed t zero p at j s h e = absurd (omega arith)
 passed t (suc n) p at j s h e =
     scan_cases false at s
@@ -129,7 +129,7 @@ passed t (suc n) p at j s h e =
     (λ k m f g q.
     let w = stands_at Request false s k m f in
     behind s m w.3 (rw g at (front_open p s t k m f)) (passed t n (p + m) (at + m) j (drop m s) (simp length-drop (omega (arith, w.2, w.3))) (sym q ∙ e)))
-    (λ k m f g q. clash (let z : Loud at k m ≡ Past j = sym q ∙ e in cc))
+    (λ k m f g q. clash (let z : loud_at at k m ≡ Ok j = sym q ∙ e in cc))
   where
     behind : (s : List ℕ) (m : ℕ) → m ≤ length s
         → first_loud p (items (settle Request) (s ++ t)) ≡ first_loud (p + m) (items (settle Request) (drop m s ++ t))
@@ -146,7 +146,7 @@ passed t (suc n) p at j s h e =
           few = rw d at x.few;
         }
 
-pub scan_goes_on : (s : List ℕ) (j : ℕ) → scanned false s ≡ Past j
+pub scan_goes_on : (s : List ℕ) (j : ℕ) → scanned false s ≡ Ok j
     → ((p : ℕ) (t : List ℕ) → first_loud p (items (settle Request) (s ++ t)) ≡ first_loud (p + j) (items (settle Request) (drop j s ++ t)))
     × (length (drop j s) ≤ cap_of Request)
     × (j ≤ length s)
@@ -162,14 +162,17 @@ record Stopped (closed : Bool) (at j k m : ℕ) (s : List ℕ) : Type 0 where
   stood : item_at Request closed (drop (j - at) s) ≡ stands k m
   noisy : is_quiet (reading k (take m (drop (j - at) s))) ≡ false
 
-loud_same : {at k m j k' m' : ℕ} → Loud at k m ≡ Loud j k' m' → (at ≡ j) × (k ≡ k') × (m ≡ m')
-loud_same e = (cc, cc, cc)
+loud_parts : {at k m j k' m' : ℕ} → loud at k m ≡ loud j k' m' → (at ≡ j) × (k ≡ k') × (m ≡ m')
+loud_parts e = (cc, cc, cc)
 
-stopped : (closed : Bool) (n at j k m : ℕ) (s : List ℕ) → length s < n → scan_from closed at s ≡ Loud j k m → Stopped closed at j k m s
+loud_same : {at k m j k' m' : ℕ} → loud_at at k m ≡ loud_at j k' m' → (at ≡ j) × (k ≡ k') × (m ≡ m')
+loud_same e = loud_parts (ap first_of e)
+
+stopped : (closed : Bool) (n at j k m : ℕ) (s : List ℕ) → length s < n → scan_from closed at s ≡ loud_at j k m → Stopped closed at j k m s
 stopped closed zero at j k m s h e = absurd (omega arith)
 stopped closed (suc n) at j k m s h e =
     scan_cases closed at s
-    (λ f q. clash (let z : Past at ≡ Loud j k m = sym q ∙ e in cc))
+    (λ f q. clash (let z : Ok at ≡ loud_at j k m = sym q ∙ e in cc))
     (λ k' m' f g q.
     let w = stands_at Request closed s k' m' f in
     behind m' (stopped closed n (at + m') j k m (drop m' s) (simp length-drop (omega (arith, w.2, w.3))) (sym q ∙ e)))
@@ -188,30 +191,28 @@ stopped closed (suc n) at j k m s h e =
         let a : j - at ≡ 0 = omega (arith, q.0) in
         record { onward = omega (arith, q.0); stood = rw (a, ← q.1, ← q.2) f; noisy = rw (a, ← q.1, ← q.2) g }
 
-pub scan_stands : (closed : Bool) (s : List ℕ) (at k m : ℕ) → scanned closed s ≡ Loud at k m
+pub scan_stands : (closed : Bool) (s : List ℕ) (at k m : ℕ) → scanned closed s ≡ loud_at at k m
     → (item_at Request closed (drop at s) ≡ stands k m) × (is_quiet (reading k (take m (drop at s))) ≡ false)
 scan_stands closed s at k m e =
     let x = stopped closed (suc (length s)) 0 at k m s (omega arith) e in
     (rw sub-zero at x.stood, rw sub-zero at x.noisy)
 
 -- its bytes are there
-pub scan_there : (closed : Bool) (s : List ℕ) (at k m : ℕ) → scanned closed s ≡ Loud at k m → at + m ≤ length s
+pub scan_there : (closed : Bool) (s : List ℕ) (at k m : ℕ) → scanned closed s ≡ loud_at at k m → at + m ≤ length s
 scan_there closed s at k m e =
     let w = stands_at Request closed (drop at s) k m (scan_stands closed s at k m e).0 in
     omega (arith, w.2, w.3, length-drop at s)
 
 -- the first item that is not quiet stands at its place, and its bytes are there
-first_scan : (s : List ℕ) (at k m : ℕ) → first_loud 0 (items (settle Request) s) ≡ loud at k m → scanned true s ≡ Loud at k m
+same_loud : {at k m j k' m' : ℕ} → loud at k m ≡ loud j k' m' → loud_at at k m ≡ loud_at j k' m'
+same_loud e = cc
+
+first_scan : (s : List ℕ) (at k m : ℕ) → first_loud 0 (items (settle Request) s) ≡ loud at k m → scanned true s ≡ loud_at at k m
 first_scan s at k m e = go (scanned true s) refl (scan_closed s ∙ e)
   where
-    go : (x : Scanned) → scanned true s ≡ x → first_of (scanned true s) ≡ loud at k m → scanned true s ≡ Loud at k m
-    go (Past j) q f = clash (let z : none ≡ loud at k m = rw q at f in cc)
-    go (Loud at' k' m') q f =
-        let z : loud at' k' m' ≡ loud at k m = rw q at f in
-        let a : at' ≡ at = cc in
-        let b : k' ≡ k = cc in
-        let c : m' ≡ m = cc in
-        q ∙ rw (a, b, c)
+    go : (x : Result ℕ Loud) → scanned true s ≡ x → first_of (scanned true s) ≡ loud at k m → scanned true s ≡ loud_at at k m
+    go (Ok j) q f = clash (let z : none ≡ loud at k m = rw q at f in cc)
+    go (Err x) q f = q ∙ same_loud (rw q at f)
 
 pub first_stands : (s : List ℕ) (at k m : ℕ) → first_loud 0 (items (settle Request) s) ≡ loud at k m
     → (item_at Request true (drop at s) ≡ stands k m) × (is_quiet (reading k (take m (drop at s))) ≡ false)
@@ -221,7 +222,7 @@ pub first_item : (s : List ℕ) (at k m : ℕ) → first_loud 0 (items (settle R
 first_item s at k m e = scan_there true s at k m (first_scan s at k m e)
 
 -- where the scan of an open run stops at an item that is not quiet, that is the first of the whole run, whatever comes behind
-pub scan_stops : (s : List ℕ) (j k m : ℕ) → scanned false s ≡ Loud j k m
+pub scan_stops : (s : List ℕ) (j k m : ℕ) → scanned false s ≡ loud_at j k m
     → (p : ℕ) (t : List ℕ) → first_loud p (items (settle Request) (s ++ t)) ≡ loud (p + j) k m
 scan_stops s j k m e p t = rw sub-zero at (go (suc (length s)) p 0 s (omega arith) e)
   where
@@ -234,12 +235,12 @@ scan_stops s j k m e p t = rw sub-zero at (go (suc (length s)) p 0 s (omega arit
     onward : (p at m' : ℕ) → at + m' ≤ j → loud (p + m' + (j - (at + m'))) k m ≡ loud (p + (j - at)) k m
     onward p at m' l = ap (λ (x : ℕ). loud x k m) (omega arith)
 
-    go : (n p at : ℕ) (s : List ℕ) → length s < n → scan_from false at s ≡ Loud j k m
+    go : (n p at : ℕ) (s : List ℕ) → length s < n → scan_from false at s ≡ loud_at j k m
         → first_loud p (items (settle Request) (s ++ t)) ≡ loud (p + (j - at)) k m
     go zero p at s h e = absurd (omega arith)
     go (suc n) p at s h e =
         scan_cases false at s
-        (λ f q. clash (let z : Past at ≡ Loud j k m = sym q ∙ e in cc))
+        (λ f q. clash (let z : Ok at ≡ loud_at j k m = sym q ∙ e in cc))
         (λ k' m' f g q.
         let w = stands_at Request false s k' m' f in
         let l : length (drop m' s) < n = simp length-drop (omega (arith, w.2, w.3)) in
@@ -249,21 +250,28 @@ scan_stops s j k m e p t = rw sub-zero at (go (suc (length s)) p 0 s (omega arit
         (λ k' m' f g q. at_front p at s k' m' (rw g at (front_open p s t k' m' f)) (loud_same (sym q ∙ e)))
 
 -- so the scan of a closed run tells the first item that is not quiet, and that tells whether there is none
-pub first_past : (s : List ℕ) (j : ℕ) → scanned true s ≡ Past j → none ≡ first_loud 0 (items (settle Request) s)
-first_past s j e = sym (ap first_of e) ∙ scan_closed s
+said_err : (r : Result ℕ Loud) → said_first (result_err r) ≡ first_of r
+said_err (Ok j) = refl
+said_err (Err x) = refl
 
-pub first_loud_lem : (s : List ℕ) (at k m : ℕ) → scanned true s ≡ Loud at k m → loud at k m ≡ first_loud 0 (items (settle Request) s)
-first_loud_lem s at k m e = sym (ap first_of e) ∙ scan_closed s
+pub first_said : (s : List ℕ) (r : Result ℕ Loud) (x : Option Loud) → r ≡ scanned true s → x ≡ result_err r → said_first x ≡ first_loud 0 (items (settle Request) s)
+first_said s r x e f = ap said_first f ∙ said_err r ∙ ap first_of e ∙ scan_closed s
 
-pub passes_none : (s : List ℕ) → none ≡ first_loud 0 (items (settle Request) s) → true ≡ quiet_run s
+passes_none : (s : List ℕ) → none ≡ first_loud 0 (items (settle Request) s) → true ≡ quiet_run s
 passes_none s e = sym ((quiet_first 0 s).1 (sym e))
 
-pub passes_loud : (s : List ℕ) (at k m : ℕ) → loud at k m ≡ first_loud 0 (items (settle Request) s) → false ≡ quiet_run s
+passes_loud : (s : List ℕ) (at k m : ℕ) → loud at k m ≡ first_loud 0 (items (settle Request) s) → false ≡ quiet_run s
 passes_loud s at k m e = go (quiet_run s) refl
   where
     go : (x : Bool) → quiet_run s ≡ x → false ≡ quiet_run s
     go true q = clash (let z : none ≡ loud at k m = sym ((quiet_first 0 s).0 q) ∙ sym e in cc)
     go false q = sym q
+
+pub passes_said : (s : List ℕ) (x : Option Loud) (b : Bool) → said_first x ≡ first_loud 0 (items (settle Request) s) → is_some x ≡ not b → b ≡ quiet_run s
+passes_said s None true e h = passes_none s e
+passes_said s None false e h = clash (cc)
+passes_said s (Some x) true e h = clash (cc)
+passes_said s (Some x) false e h = passes_loud s x.place x.number x.size e
 
 -- the same items from a place further on: only the place is another
 abbrev pub moved : ℕ → First → First

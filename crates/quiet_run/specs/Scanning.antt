@@ -1,8 +1,8 @@
 -- A scan on its way, one item after the other.
 use Prim.Native.Nat.{ℕ, zero, suc, ◌+◌, ◌-◌, ◌≤◌, ◌<◌}
-use Rattle.std.specs.Prelude.{◌≡◌, Bool, true, false, ◌&&◌, List, [], ◌∷◌, length, take, drop, eqb}
+use Rattle.std.specs.Prelude.{◌≡◌, Bool, true, false, ◌&&◌, List, [], ◌∷◌, length, take, drop, eqb, Ok}
 use Rattle.std.proofs.Math.Path.{refl}
-use Rattle.std.proofs.Common.{sym, ap, ◌∙◌, length-drop, drop-drop, ne_eqb, arith}
+use Rattle.std.proofs.Common.{sym, ap, ◌∙◌, length-drop, drop-drop, arith}
 use Rattle.std.proofs.Math.ListN.{get_or-eq_default}
 use Rattle.frame.specs.Frame.{byte}
 use Rattle.command.specs.Command.{shape_of}
@@ -11,13 +11,12 @@ use Rattle.stream.specs.Stream.{reading, Position, nothing, stands}
 use Rattle.extent.specs.declared.Line.TheVariants.{Request}
 use Rattle.line.specs.Rule.{item_at}
 use Rattle.line.specs.Says.{none_at, stands_at}
-use Rattle.quiet_run.specs.declared.Scanned.TheVariants.{Past, Loud}
 use Rattle.quiet_run.specs.Quiet.{is_quiet}
-use Rattle.quiet_run.specs.Scan.{scan_at, scan_up_to, scan_from, scanned}
+use Rattle.quiet_run.specs.Scan.{loud_at, scan_at, scan_up_to, scan_from, scanned}
 
 module _ (closed : Bool) where
   -- where nothing stands the scan is past, and else the item that stands there says how it goes
-  up_to_none : (n at : ℕ) (s : List ℕ) → item_at Request closed s ≡ nothing → scan_up_to closed n at s ≡ Past at
+  up_to_none : (n at : ℕ) (s : List ℕ) → item_at Request closed s ≡ nothing → scan_up_to closed n at s ≡ Ok at
   unfolding scan_up_to
   up_to_none zero at s e = refl
   up_to_none (suc n) at s e = rw e
@@ -47,7 +46,7 @@ module _ (closed : Bool) where
   enough (suc n) (suc m) at s hn hm =
       either n m at s (item_at Request closed s) refl (λ a t l. enough n m a t (omega arith) (omega arith))
 
-  pub scan_none : (at : ℕ) (s : List ℕ) → item_at Request closed s ≡ nothing → scan_from closed at s ≡ Past at
+  pub scan_none : (at : ℕ) (s : List ℕ) → item_at Request closed s ≡ nothing → scan_from closed at s ≡ Ok at
   scan_none at s e = up_to_none (length s) at s e
 
   pub scan_next : (at : ℕ) (s : List ℕ) (k m : ℕ) → item_at Request closed s ≡ stands k m
@@ -62,10 +61,10 @@ module _ (closed : Bool) where
 
   -- the three ways that a scan can go at a place
   pub scan_cases : {P : Type 0} (at : ℕ) (s : List ℕ)
-      → (item_at Request closed s ≡ nothing → scan_from closed at s ≡ Past at → P)
+      → (item_at Request closed s ≡ nothing → scan_from closed at s ≡ Ok at → P)
       → ((k m : ℕ) → item_at Request closed s ≡ stands k m → is_quiet (reading k (take m s)) ≡ true
       → scan_from closed at s ≡ scan_from closed (at + m) (drop m s) → P)
-      → ((k m : ℕ) → item_at Request closed s ≡ stands k m → is_quiet (reading k (take m s)) ≡ false → scan_from closed at s ≡ Loud at k m → P)
+      → ((k m : ℕ) → item_at Request closed s ≡ stands k m → is_quiet (reading k (take m s)) ≡ false → scan_from closed at s ≡ loud_at at k m → P)
       → P
   scan_cases {P} at s none quiet loud = go (item_at Request closed s) refl
     where
@@ -77,10 +76,7 @@ module _ (closed : Bool) where
       go nothing e = none e (scan_none at s e)
       go (stands k m) e = heard k m (is_quiet (reading k (take m s))) refl e
 
--- an item is not quiet where its number is not 0, or where it has no third byte; else its command tells
-pub quiet_number : (k : ℕ) (l : List ℕ) → (k ≡ 0 → ⊥) → false ≡ is_quiet (reading k l)
-quiet_number k l n = rw (ne_eqb k 0 n)
-
+-- an item that has no third byte is not quiet
 zero_outside : is_inside 0 ≡ false
 unfolding is_inside shape_of
 zero_outside = refl
@@ -95,9 +91,6 @@ quiet_short k l h = go (eqb k 0)
     go true = sym none
     go false = refl
 
-pub quiet_frame : (k : ℕ) (l : List ℕ) (r : Bool) → k ≡ 0 → r ≡ is_inside (byte 2 l) → r ≡ is_quiet (reading k l)
-quiet_frame k l r z e = rw (z, e)
-
 -- the scan of a run is at a place of it: what is left gives the whole
 pub record Scanning (closed : Bool) (s : List ℕ) (at : ℕ) : Type 0 where
   pub there : at ≤ length s
@@ -108,10 +101,10 @@ module _ {closed : Bool} {s : List ℕ} where
   scanning_starts = record { there = omega arith; left = refl }
 
   -- at the end of the bytes, and where no item stands
-  pub stops_waiting : {at : ℕ} → Scanning closed s at → item_at Request closed (drop at s) ≡ nothing → Past at ≡ scanned closed s
+  pub stops_waiting : {at : ℕ} → Scanning closed s at → item_at Request closed (drop at s) ≡ nothing → Ok at ≡ scanned closed s
   stops_waiting {at} p e = sym (p.left ∙ scan_none closed at (drop at s) e)
 
-  pub stops_end : {at : ℕ} → Scanning closed s at → length s ≤ at → Past at ≡ scanned closed s
+  pub stops_end : {at : ℕ} → Scanning closed s at → length s ≤ at → Ok at ≡ scanned closed s
   stops_end {at} p h = stops_waiting p (none_at Request closed (drop at s) (simp length-drop (omega arith)))
 
   -- the item that stands at a place, by its number k and its size m
@@ -119,7 +112,7 @@ module _ {closed : Bool} {s : List ℕ} where
     part : at + m - at ≡ m
     part = omega arith
 
-    pub stops_loud : is_quiet (reading k (take (at + m - at) (drop at s))) ≡ false → Loud at k m ≡ scanned closed s
+    pub stops_loud : is_quiet (reading k (take (at + m - at) (drop at s))) ≡ false → loud_at at k m ≡ scanned closed s
     stops_loud q =
         let f : is_quiet (reading k (take m (drop at s))) ≡ false = rw part at q in
         sym (p.left ∙ scan_next closed at (drop at s) k m e ∙ rw f)

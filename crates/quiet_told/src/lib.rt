@@ -7,26 +7,20 @@ ghost use Rattle.frame.specs.Frame.{byte};
 ghost use Rattle.lent.specs.All.{PutsAll};
 ghost use Rattle.quiet_told.specs.Answer.{plus, outside_texts, reason_texts, place_texts, loud_texts, closed_texts};
 
-use quiet_run::Found;
-
-// The greatest number of 64 bits.
-const MOST: u64 = 18446744073709551615;
+use quiet_run::Loud;
 
 // A place so many bytes further, in 64 bits. One that is full stays so.
 pub fn plus(a: u64, b: u64) -> u64
     ensures { result ≡ plus a b }
 {
-    if MOST - a < b { MOST } else { a + b }
+    a.saturating_add(b)
 }
 
 // The third byte of an item, 0 where it has none.
 fn third(item: &[u8]) -> u8
     ensures { result ≡ byte 2 item.now }
 {
-    if item.len() < 3 {
-        return 0;
-    }
-    item[2]
+    item.get(2).copied().unwrap_or(0)
 }
 
 // Puts why a request is not quiet that is accepted: its command is outside the profile.
@@ -42,28 +36,16 @@ fn outside(out: &mut [u8], at: usize, item: &[u8]) -> usize
 fn reason(out: &mut [u8], at: usize, number: u8, item: &[u8]) -> usize
     ensures { PutsAll (reason_texts number item.now) out.old at result out.new }
 {
-    if number == 0 {
-        return outside(out, at, item);
+    match number {
+        0 => outside(out, at, item),
+        1 => lent::word(out, at, b"the run ends inside a request"),
+        2 => lent::word(out, at, b"no request begins here"),
+        3 => lent::word(out, at, b"the command is unknown"),
+        4 => lent::word(out, at, b"no such length byte or colour type"),
+        6 => lent::word(out, at, b"the sum is wrong"),
+        7 => lent::word(out, at, b"an argument is out of range"),
+        _ => lent::word(out, at, b"not a request"),
     }
-    if number == 1 {
-        return lent::word(out, at, b"the run ends inside a request");
-    }
-    if number == 2 {
-        return lent::word(out, at, b"no request begins here");
-    }
-    if number == 3 {
-        return lent::word(out, at, b"the command is unknown");
-    }
-    if number == 4 {
-        return lent::word(out, at, b"no such length byte or colour type");
-    }
-    if number == 6 {
-        return lent::word(out, at, b"the sum is wrong");
-    }
-    if number == 7 {
-        return lent::word(out, at, b"an argument is out of range");
-    }
-    lent::word(out, at, b"not a request")
 }
 
 // Puts which item is not quiet: its number, and its place in the run.
@@ -92,14 +74,19 @@ pub fn loud(out: &mut [u8], n: u64, number: u8, item: &[u8]) -> usize
 pub fn last(out: &mut [u8], passed: u64, s: &[u8]) -> usize
     ensures { PutsAll (closed_texts passed s.now) out.old 0 result out.new }
 {
-    let found = quiet_run::first(s);
-    match found {
-        Found::None => lent::word(out, 0, b"yes\n"),
-        Found::Loud(at, number, size) => loud(
+    match quiet_run::first(s) {
+        None => lent::word(out, 0, b"yes\n"),
+        Some(
+            Loud {
+                place,
+                number,
+                size,
+            },
+        ) => loud(
             out,
-            plus(passed, at as u64),
+            plus(passed, place as u64),
             number,
-            &s[at..at + size],
+            &s[place..place + size],
         ),
     }
 }

@@ -1,5 +1,5 @@
 -- Whatever the input, a run comes to its end: with room for what is held and a part behind it, each part can be read.
-use Rattle.std.specs.Prelude.{ℕ, suc, ◌+◌, ◌≤◌, ◌≡◌, refl, false, List, [], ◌∷◌, ◌++◌, length, take, drop, pos}
+use Rattle.std.specs.Prelude.{ℕ, suc, ◌+◌, ◌≤◌, ◌≡◌, refl, false, List, [], ◌∷◌, ◌++◌, length, take, drop, pos, Ok, Err, Result}
 use Rattle.std.proofs.Common.{◌∙◌, length-append, length-drop, length-take, take_at, length-take-le, arith}
 use Rattle.lent.specs.Puts.{over}
 use Rattle.lent.specs.All.{place_all, buffer_all}
@@ -8,8 +8,7 @@ use Rattle.extent.specs.declared.Line.TheVariants.{Request}
 use Rattle.extent.specs.Line.{cap_of}
 use Rattle.turns.specs.Turn.{in_front}
 use Rattle.turns.specs.Ends.{Parts}
-use Rattle.quiet_run.specs.declared.Scanned.{Scanned}
-use Rattle.quiet_run.specs.declared.Scanned.TheVariants.{Past, Loud}
+use Rattle.quiet_run.specs.declared.Loud.{Loud}
 use Rattle.quiet_run.specs.Scan.{scanned}
 use Rattle.quiet_run.specs.Laws.{scan_goes_on}
 use Rattle.quiet_turns.specs.declared.Watch.{Watch}
@@ -53,16 +52,16 @@ module _ (size : ℕ) where
       front : (j : ℕ) → length (in_front (drop j s) b) ≡ length buf
       front j = length-append (drop j s) (drop (length (drop j s)) b) ∙ omega (arith, wide, length-drop (length (drop j s)) b, length-drop j s, length-take (w.held + suc (length p)) b)
 
-      go : (y : Scanned) → scanned false s ≡ y
+      go : (y : Result ℕ Loud) → scanned false s ≡ y
           → ((v : Watch) (buf out : List ℕ) → v.held ≤ cap_of Request → cap_of Request + size ≤ length buf → Runs v buf out ps)
           → Runs w buf out ((x ∷ p) ∷ ps)
-      go (Past j) e again =
+      go (Ok j) e again =
           let v : Watch = record { passed = plus w.passed j; held = length (drop j s) } in
           let d : Turns w (pos (suc (length p))) b out (Read v) (in_front (drop j s) b) out = record { answers = rw e; keeps = rw e; leaves = rw e } in
           let r = again v (in_front (drop j s) b) out (scan_goes_on s j e).1 (omega (arith, front j)) in
           (r.0, reads_part {buf' = b} {p = x ∷ p} (omega arith) read d r.1)
-      go (Loud a k m) e again =
-          let ts = loud_texts (plus w.passed a) k (take m (drop a s)) in
+      go (Err y) e again =
+          let ts = loud_texts (plus w.passed y.place) y.number (take y.size (drop y.place s)) in
           let d : Turns w (pos (suc (length p))) b out (Says (place_all ts out 0)) b (buffer_all ts out 0) = record { answers = rw e; keeps = rw e; leaves = rw e } in
           (take (place_all ts out 0) (buffer_all ts out 0), stops_at {buf' = b} {p = x ∷ p} (omega arith) read d)
 

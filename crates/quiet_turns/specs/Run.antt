@@ -1,6 +1,6 @@
 -- The whole program, as any program runs that goes by the answers of `turn`: it begins with nothing passed and nothing held, reads behind what
 -- is held, hands what the read answered to `turn`, goes on from the watch that it was given, and says what it is to say.
-use Rattle.std.specs.Prelude.{ℕ, ◌+◌, ◌≤◌, min, ◌≡◌, refl, true, false, List, [], ◌∷◌, ◌++◌, length, take, drop, pos}
+use Rattle.std.specs.Prelude.{ℕ, ◌+◌, ◌≤◌, min, ◌≡◌, refl, true, false, List, [], ◌∷◌, ◌++◌, length, take, drop, pos, Ok}
 use Rattle.std.proofs.Common.{sym, ap, ◌∙◌, append_assoc, append-nil, length-append, take-append-drop, length-take-le, add-zero, arith}
 use Rattle.std.proofs.Math.Seq.{drop-append-add}
 use Rattle.refusal.specs.Test.{clash}
@@ -10,9 +10,8 @@ use Rattle.lent.specs.All.{place_all, buffer_all}
 use Rattle.stream.specs.Stream.{items, whole}
 use Rattle.extent.specs.declared.Line.TheVariants.{Request}
 use Rattle.line.specs.Rule.{settle}
-use Rattle.quiet_run.specs.declared.Scanned.TheVariants.{Past, Loud}
 use Rattle.quiet_run.specs.Quiet.{quiet_run, First, none, loud, first_loud}
-use Rattle.quiet_run.specs.Scan.{scanned}
+use Rattle.quiet_run.specs.Scan.{loud_at, scanned}
 use Rattle.quiet_run.specs.Laws.{quiet_first, scan_stands, scan_there, scan_goes_on, scan_stops, first_item, moved, first_moved}
 use Rattle.quiet_turns.specs.declared.Watch.{Watch}
 use Rattle.quiet_turns.specs.declared.Act.TheVariants.{Read, Says}
@@ -83,7 +82,7 @@ module _ {before h : List ℕ} {passed : ℕ} (b : Behind before h passed) where
     whole_same t = rw (there_same t) (b.same (p ++ t))
 
     -- the scan of it is past j bytes
-    past_step : (j c : ℕ) → scanned false s ≡ Past j → c ≡ plus passed j → Behind (before ++ take j s) (drop j s) c
+    past_step : (j c : ℕ) → scanned false s ≡ Ok j → c ≡ plus passed j → Behind (before ++ take j s) (drop j s) c
     past_step j c f q =
         let g = scan_goes_on s j f in
         let l : length (before ++ take j s) ≡ length before + j = length-append before (take j s) ∙ rw (length-take-le j s g.2) in
@@ -93,7 +92,7 @@ module _ {before h : List ℕ} {passed : ℕ} (b : Behind before h passed) where
         }
 
     -- or it stops at an item
-    stop_step : (a k m : ℕ) (t : List ℕ) → scanned false s ≡ Loud a k m
+    stop_step : (a k m : ℕ) (t : List ℕ) → scanned false s ≡ loud_at a k m
         → whole (loud_texts (plus passed a) k (take m (drop a s))) ≡ answer_of (before ++ (h ++ (p ++ t)))
     stop_step a k m t f =
         let first : first_loud 0 (items (settle Request) (before ++ (s ++ t))) ≡ loud (length before + a) k m = whole_same t ∙ scan_stops s a k m f (length before) t in

@@ -1,14 +1,13 @@
 -- What an answer of `turn` tells.
-use Rattle.std.specs.Prelude.{ℕ, zero, suc, ◌+◌, ◌≤◌, ◌≡◌, refl, false, List, ◌++◌, length, take, drop, ℤ, pos, negsuc}
+use Rattle.std.specs.Prelude.{ℕ, zero, suc, ◌+◌, ◌≤◌, ◌≡◌, refl, false, List, ◌++◌, length, take, drop, ℤ, pos, negsuc, Ok, Err, Result}
 use Rattle.std.proofs.Common.{ap, arith}
 use Rattle.std.proofs.Math.Seq.{take-append_seam}
 use Rattle.refusal.specs.Test.{clash}
 use Rattle.lent.specs.All.{place_all, buffer_all}
 use Rattle.extent.specs.declared.Line.TheVariants.{Request}
 use Rattle.extent.specs.Line.{cap_of}
-use Rattle.quiet_run.specs.declared.Scanned.{Scanned}
-use Rattle.quiet_run.specs.declared.Scanned.TheVariants.{Past, Loud}
-use Rattle.quiet_run.specs.Scan.{scanned}
+use Rattle.quiet_run.specs.declared.Loud.{Loud}
+use Rattle.quiet_run.specs.Scan.{loud_at, scanned}
 use Rattle.quiet_run.specs.Laws.{scan_goes_on, scan_stands}
 use Rattle.quiet_turns.specs.declared.Watch.{Watch}
 use Rattle.quiet_turns.specs.declared.Act.TheVariants.{Failed, Read, Says}
@@ -19,7 +18,7 @@ use Rattle.quiet_turns.specs.Turn.{going, Does, Turns}
 -- it reads on: the scan is past j bytes, and the others stand in front of the buffer
 pub record Went (passed : ℕ) (s : List ℕ) (out : List ℕ) (v : Watch) (buf' out' : List ℕ) : Type 0 where
   pub by : ℕ
-  pub past : scanned false s ≡ Past by
+  pub past : scanned false s ≡ Ok by
   pub counted : v.passed ≡ plus passed by
   pub held : v.held ≡ length (drop by s)
   pub front : take v.held buf' ≡ drop by s
@@ -30,7 +29,7 @@ pub record Stopped (passed : ℕ) (s out : List ℕ) (n : ℕ) (out' : List ℕ)
   pub place : ℕ
   pub number : ℕ
   pub size : ℕ
-  pub found : scanned false s ≡ Loud place number size
+  pub found : scanned false s ≡ loud_at place number size
   pub says : n ≡ place_all (loud_texts (plus passed place) number (take size (drop place s))) out 0
   pub leaves : out' ≡ buffer_all (loud_texts (plus passed place) number (take size (drop place s))) out 0
 
@@ -38,8 +37,8 @@ module _ (passed : ℕ) (s : List ℕ) {buf out buf' out' : List ℕ} where
   pub going_reads : {v : Watch} → Does (going passed s) buf out (Read v) buf' out' → Went passed s out v buf' out'
   going_reads {v} d = go (scanned false s) refl
     where
-      go : (x : Scanned) → scanned false s ≡ x → Went passed s out v buf' out'
-      go (Past j) e =
+      go : (x : Result ℕ Loud) → scanned false s ≡ x → Went passed s out v buf' out'
+      go (Ok j) e =
           let q : Read v ≡ Read (record { passed = plus passed j; held = length (drop j s) }) = rw e at d.answers in
           let f : v ≡ record { passed = plus passed j; held = length (drop j s) } = cc in
           let b : buf' ≡ drop j s ++ drop (length (drop j s)) buf = rw e at d.keeps in
@@ -51,25 +50,26 @@ module _ (passed : ℕ) (s : List ℕ) {buf out buf' out' : List ℕ} where
             front = rw (ap (λ (x : Watch). x.held) f, b) (take-append_seam (drop j s) (drop (length (drop j s)) buf));
             same = rw e at d.leaves;
           }
-      go (Loud a k m) e = clash (let q : Read v ≡ Says (place_all (loud_texts (plus passed a) k (take m (drop a s))) out 0) = rw e at d.answers in cc)
+      go (Err x) e = clash (let q : Read v ≡ Says (place_all (loud_texts (plus passed x.place) x.number (take x.size (drop x.place s))) out 0) = rw e at d.answers in cc)
 
   pub going_says : {n : ℕ} → Does (going passed s) buf out (Says n) buf' out' → Stopped passed s out n out'
   going_says {n} d = go (scanned false s) refl
     where
-      go : (x : Scanned) → scanned false s ≡ x → Stopped passed s out n out'
-      go (Past j) e = clash (let q : Says n ≡ Read (record { passed = plus passed j; held = length (drop j s) }) = rw e at d.answers in cc)
-      go (Loud a k m) e =
-          let q : Says n ≡ Says (place_all (loud_texts (plus passed a) k (take m (drop a s))) out 0) = rw e at d.answers in
-          let f : n ≡ place_all (loud_texts (plus passed a) k (take m (drop a s))) out 0 = cc in
-          record { place = a; number = k; size = m; found = e; says = f; leaves = rw e at d.leaves }
+      go : (x : Result ℕ Loud) → scanned false s ≡ x → Stopped passed s out n out'
+      go (Ok j) e = clash (let q : Says n ≡ Read (record { passed = plus passed j; held = length (drop j s) }) = rw e at d.answers in cc)
+      go (Err x) e =
+          let ts = loud_texts (plus passed x.place) x.number (take x.size (drop x.place s)) in
+          let q : Says n ≡ Says (place_all ts out 0) = rw e at d.answers in
+          let f : n ≡ place_all ts out 0 = cc in
+          record { place = x.place; number = x.number; size = x.size; found = e; says = f; leaves = rw e at d.leaves }
 
   -- it says no failure
   pub going_on : Does (going passed s) buf out Failed buf' out' → ⊥
   going_on d = go (scanned false s) refl
     where
-      go : (x : Scanned) → scanned false s ≡ x → ⊥
-      go (Past j) e = clash (let q : Failed ≡ Read (record { passed = plus passed j; held = length (drop j s) }) = rw e at d.answers in cc)
-      go (Loud a k m) e = clash (let q : Failed ≡ Says (place_all (loud_texts (plus passed a) k (take m (drop a s))) out 0) = rw e at d.answers in cc)
+      go : (x : Result ℕ Loud) → scanned false s ≡ x → ⊥
+      go (Ok j) e = clash (let q : Failed ≡ Read (record { passed = plus passed j; held = length (drop j s) }) = rw e at d.answers in cc)
+      go (Err x) e = clash (let q : Failed ≡ Says (place_all (loud_texts (plus passed x.place) x.number (take x.size (drop x.place s))) out 0) = rw e at d.answers in cc)
 
 module _ (w : Watch) (buf : List ℕ) {out buf' out' : List ℕ} where
   -- a read of some bytes, and one of none

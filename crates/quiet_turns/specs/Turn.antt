@@ -1,10 +1,9 @@
 -- What the program quiet does next after a read.
-use Rattle.std.specs.Prelude.{ℕ, zero, suc, ◌+◌, ◌≡◌, false, List, length, take, drop, ℤ, pos, negsuc}
+use Rattle.std.specs.Prelude.{ℕ, zero, suc, ◌+◌, ◌≡◌, false, List, length, take, drop, ℤ, pos, negsuc, Ok, Err, Result}
 use Rattle.std.proofs.Common.{sym, ◌∙◌}
 use Rattle.lent.specs.All.{place_all, buffer_all}
 use Rattle.turns.specs.Turn.{in_front}
-use Rattle.quiet_run.specs.declared.Scanned.{Scanned}
-use Rattle.quiet_run.specs.declared.Scanned.TheVariants.{Past, Loud}
+use Rattle.quiet_run.specs.declared.Loud.{Loud}
 use Rattle.quiet_run.specs.Scan.{scanned}
 use Rattle.quiet_turns.specs.declared.Watch.{Watch}
 use Rattle.quiet_turns.specs.declared.Act.{Act}
@@ -22,9 +21,9 @@ pub data Doing : Type 0 where
   says : List (List ℕ) → Doing
 
 -- with the bytes s there, behind so many that are passed, and more to come: they are passed over as far as they are quiet items
-abbrev pub scanning : ℕ → List ℕ → Scanned → Doing
-scanning passed s (Past j) = reads (plus passed j) (drop j s)
-scanning passed s (Loud at k m) = says (loud_texts (plus passed at) k (take m (drop at s)))
+abbrev pub scanning : ℕ → List ℕ → Result ℕ Loud → Doing
+scanning passed s (Ok j) = reads (plus passed j) (drop j s)
+scanning passed s (Err x) = says (loud_texts (plus passed x.place) x.number (take x.size (drop x.place s)))
 
 abbrev pub going : ℕ → List ℕ → Doing
 going passed s = scanning passed s (scanned false s)

@@ -3,15 +3,15 @@
 // is held, and on crate quiet_told for the line that it answers. Document 02, W-203.
 #![tactic(auto)]
 
-ghost use Rattle.std.specs.Prelude.{◌≤◌, min, ◌≡◌, length};
+ghost use Rattle.std.specs.Prelude.{◌≤◌, ◌≡◌, length};
 ghost use Rattle.quiet_turns.specs.Turn.{start, Onward, Turns};
 
-use quiet_run::Scanned;
+use quiet_run::Loud;
 use quiet_told::{last, loud, plus};
-use turns::{After, Turn};
+use turns::Turn;
 
 // Where a run stands: how many bytes of it are passed over, and how many stand at the front of the buffer, held and not passed yet.
-#[derive(Drop)]
+#[derive(Clone, Copy, Debug, PartialEq, Eq)]
 pub struct Watch {
     pub passed: u64,
     pub held: usize,
@@ -19,7 +19,7 @@ pub struct Watch {
 
 // What the program does next: the read failed, and there is no answer; it reads behind the bytes that it holds, which stand in front of its
 // buffer; or it says the answer, so many bytes of text.
-#[derive(Drop)]
+#[derive(Clone, Copy, Debug)]
 pub enum Act {
     Failed,
     Read(Watch),
@@ -33,31 +33,29 @@ pub fn fresh() -> Watch
     Watch { passed: 0, held: 0 }
 }
 
-fn least(a: usize, b: usize) -> usize
-    ensures { result ≡ min a b }
-{
-    if a < b { a } else { b }
-}
-
 // What to do where the buffer's bytes up to an end are there and more may come: they are passed over as far as they are quiet items, and
 // the rest is kept in front; or the answer is no.
 fn onward(passed: u64, end: usize, buf: &mut [u8], out: &mut [u8]) -> Act
     requires { end ≤ length buf.old }
     ensures { Onward passed end buf.old out.old result buf.new out.new }
 {
-    let scanned = quiet_run::scan(&buf[..end], false);
-    match scanned {
-        Scanned::Past(j) => {
-            let held = turns::keep(buf, j, end);
-            Act::Read(Watch {
-                passed: plus(passed, j as u64),
-                held: held,
-            })
-        }
-        Scanned::Loud(at, number, size) => {
-            let n = loud(out, plus(passed, at as u64), number, &buf[at..at + size]);
-            Act::Says(n)
-        }
+    match quiet_run::scan(&buf[..end], false) {
+        Ok(j) => Act::Read(Watch {
+            passed: plus(passed, j as u64),
+            held: turns::keep(buf, j, end),
+        }),
+        Err(
+            Loud {
+                place,
+                number,
+                size,
+            },
+        ) => Act::Says(loud(
+            out,
+            plus(passed, place as u64),
+            number,
+            &buf[place..place + size],
+        )),
     }
 }
 
@@ -71,14 +69,12 @@ pub fn turn(watch: Watch, got: isize, buf: &mut [u8], out: &mut [u8]) -> Act
         end: watch.held,
         closed: false,
     };
-    let after = turns::read(held, got, buf.len());
-    let After::Goes(on) = after else {
+    let Some(on) = turns::read(held, got, buf.len()) else {
         return Act::Failed;
     };
-    let e = least(on.end, buf.len());
+    let e = on.end.min(buf.len());
     if on.closed {
-        let n = last(out, watch.passed, &buf[..e]);
-        return Act::Says(n);
+        return Act::Says(last(out, watch.passed, &buf[..e]));
     }
     onward(watch.passed, e, buf, out)
 }

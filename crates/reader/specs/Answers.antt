@@ -1,5 +1,5 @@
 -- What the definitions of the calls come to as results: each says what the rule's call answers, and no more.
-use Rattle.std.specs.Prelude.{ℕ, zero, suc, ◌≤◌, ◌≡◌, refl, List, [], ◌++◌, length, take}
+use Rattle.std.specs.Prelude.{ℕ, zero, suc, ◌≤◌, ◌≡◌, refl, List, [], ◌++◌, length, take, Option, Some, None}
 use Rattle.std.proofs.Common.{sym, ap, ◌∙◌, length-append, length-take, length-drop, arith}
 use Rattle.refusal.specs.Test.{clash}
 use Rattle.stream.specs.Stream.{Item, reading, Fed, nothing_yet, found, Closed, empty, last, feed, close}
@@ -11,38 +11,37 @@ use Rattle.line.specs.Rule.{settle}
 use Rattle.line.specs.Laws.{lawful, waits_few}
 use Rattle.reader.specs.declared.Held.{Held}
 use Rattle.reader.specs.declared.Given.{Given}
-use Rattle.reader.specs.declared.Got.{Got}
-use Rattle.reader.specs.declared.Got.TheVariants.{Nothing, Item as Got-as-Item}
+use Rattle.reader.specs.declared.Item.{Item as Got}
 use Rattle.reader.specs.Reader.{item_room, held_of, hold, fed_said, closed_said, said_fed, said_closed, given_of, closed_of, Feeds, Closes}
 use Rattle.reader.specs.Arrays.{take_pad}
 use Rattle.reader.specs.Claims.{held_few, hold_holds}
 
 -- what a result says is held
 pub found_held : (on : Line) (r : Given) (j : ℕ) (i : Item) (g : List ℕ) → said_fed on r ≡ found j i g → held_of on r.held ≡ g
-found_held on r j i g = go r.got r.taken (take r.count r.bytes) (held_of on r.held)
+found_held on r j i g = go r.item r.taken (held_of on r.held)
   where
-    go : (x : Got) (c : ℕ) (l f : List ℕ) → fed_said x c l f ≡ found j i g → f ≡ g
-    go Nothing c l f e = clash (cc)
-    go (Got-as-Item k) c l f e = cc
+    go : (x : Option Got) (c : ℕ) (f : List ℕ) → fed_said x c f ≡ found j i g → f ≡ g
+    go None c f e = clash (cc)
+    go (Some k) c f e = cc
 
 pub nothing_held : (on : Line) (r : Given) (g : List ℕ) → said_fed on r ≡ nothing_yet g → held_of on r.held ≡ g
-nothing_held on r g = go r.got r.taken (take r.count r.bytes) (held_of on r.held)
+nothing_held on r g = go r.item r.taken (held_of on r.held)
   where
-    go : (x : Got) (c : ℕ) (l f : List ℕ) → fed_said x c l f ≡ nothing_yet g → f ≡ g
-    go Nothing c l f e = cc
-    go (Got-as-Item k) c l f e = clash (cc)
+    go : (x : Option Got) (c : ℕ) (f : List ℕ) → fed_said x c f ≡ nothing_yet g → f ≡ g
+    go None c f e = cc
+    go (Some k) c f e = clash (cc)
 
 pub last_held : (on : Line) (r : Given) (i : Item) (g : List ℕ) → said_closed on r ≡ last i g → held_of on r.held ≡ g
-last_held on r i g = go r.got (take r.count r.bytes) (held_of on r.held)
+last_held on r i g = go r.item (held_of on r.held)
   where
-    go : (x : Got) (l f : List ℕ) → closed_said x l f ≡ last i g → f ≡ g
-    go Nothing l f e = clash (cc)
-    go (Got-as-Item k) l f e = cc
+    go : (x : Option Got) (f : List ℕ) → closed_said x f ≡ last i g → f ≡ g
+    go None f e = clash (cc)
+    go (Some k) f e = cc
 
 -- a result that says no more holds what it says, and no other byte
-pub given_held : (p : List ℕ) (x : Got) (j : ℕ) (l g : List ℕ) → (given_of p (fed_said x j l g)).held ≡ hold g
-given_held p Nothing j l g = refl
-given_held p (Got-as-Item k) j l g = refl
+pub given_held : (p : List ℕ) (x : Option Got) (j : ℕ) (g : List ℕ) → (given_of p (fed_said x j g)).held ≡ hold g
+given_held p None j g = refl
+given_held p (Some k) j g = refl
 
 -- the bytes held after an answer
 abbrev pub held_after : Fed → List ℕ

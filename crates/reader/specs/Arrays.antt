@@ -1,12 +1,12 @@
 -- A run of bytes at the front of an array, and zeros behind it.
-use Rattle.std.specs.Prelude.{ℕ, zero, suc, ◌+◌, ◌-◌, ◌≤◌, ◌≡◌, List, [], ◌∷◌, ◌++◌, length, get_or, take, drop}
+use Rattle.std.specs.Prelude.{ℕ, zero, suc, ◌-◌, ◌≤◌, ◌≡◌, List, [], ◌∷◌, length, get_or, take, drop}
 use Rattle.std.proofs.Math.Path.{refl}
 use Rattle.std.proofs.Common.{ap, ◌∙◌, length-append, zero-add, arith}
 use Rattle.std.proofs.Math.ListN.{replicate, length-replicate}
 use Rattle.std.proofs.Math.Seq.{take_at}
 use Rattle.lent.specs.Puts.{Puts}
-use Rattle.lent.specs.Over.{puts_room, puts_then}
-use Rattle.reader.specs.Reader.{pad, hold, held_room}
+use Rattle.lent.specs.Over.{puts_room}
+use Rattle.reader.specs.Reader.{pad}
 
 -- zeros, by their number
 zeros_same : (k n : ℕ) → k ≡ n → replicate {A = ℕ} k 0 ≡ replicate n 0
@@ -39,16 +39,3 @@ pub filled_one : (n : ℕ) (s : List ℕ) (r : ℕ) (b : List ℕ) → length s 
 filled_one n [] r b l h p = absurd (omega arith)
 filled_one n (x ∷ []) r b l h p = (filled n (x ∷ []) r b (omega arith) p).1
 filled_one n (x ∷ (y ∷ s)) r b l h p = absurd (omega arith)
-
--- a run put into an array of zeros, and another behind it
-pub filled_then : (n : ℕ) (s t : List ℕ) (m r : ℕ) (a b : List ℕ) → length s + length t ≤ n → Puts s (replicate n 0) 0 m a → Puts t a m r b
-    → (r ≡ length (s ++ t)) × (b ≡ pad n (s ++ t))
-filled_then n s t m r a b h p q =
-    filled n (s ++ t) r b (simp length-append h)
-    (puts_then {t = s} {u = t} {out = replicate n 0} (simp length-replicate (omega arith)) p q)
-
--- a state that holds a run
-pub held_is : (s b : List ℕ) (r : ℕ) → length s ≤ held_room → Puts s (replicate held_room 0) 0 r b → record { bytes = b; len = r } ≡ hold s
-held_is s b r h p =
-    let w = filled held_room s r b h p in
-    λ i. record { bytes = w.1 i; len = w.0 i }

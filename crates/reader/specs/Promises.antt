@@ -13,7 +13,7 @@ use Rattle.line.specs.Rule.{settle}
 use Rattle.line.specs.Laws.{lawful, by_few, fullest, waits_most}
 use Rattle.reader.specs.declared.Held.{Held}
 use Rattle.reader.specs.declared.Given.{Given}
-use Rattle.reader.specs.Reader.{item_room, held_of, hold, said_fed, said_closed, given_of, closed_of, Feeds, Closes}
+use Rattle.reader.specs.Reader.{item_room, held_of, hold, said_fed, said_closed, count_of, given_of, closed_of, Feeds, Closes}
 use Rattle.reader.specs.Claims.{cap_fits, held_few, held_over, hold_holds}
 use Rattle.reader.specs.Answers.{given_held, feeds_by}
 use Rattle.reader.specs.Window.{begin_nothing}
@@ -28,7 +28,7 @@ pub record FeedPromise (on : Line) (h : Held) (p : List ℕ) (r : Given) : Type 
       → (r.taken ≡ length p) × (g ≡ held_of on h ++ p) × ((c : ℕ) → settle on (held_of on h ++ take c p) ≡ More)
   -- it takes no more than the part, its item has room, and with each item fewer bytes are left to read
   pub fits : r.taken ≤ length p
-  pub room : r.count ≤ item_room
+  pub room : count_of r.item ≤ item_room
   pub onwards : (j : ℕ) (i : Item) (g : List ℕ) → said_fed on r ≡ found j i g → length g + (length p - j) < length (held_of on h) + length p
   -- "A reader holds at most 67 bytes of a reply line and 10 of a request line", and 12 of it since W-202.
   pub few : r.held.len ≤ cap_of on
@@ -43,7 +43,7 @@ pub record ClosePromise (on : Line) (h : Held) (r : Given) : Type 0 where
   pub end : said_closed on r ≡ empty → (held_of on h ≡ []) × (r.held ≡ hold [])
   -- it takes nothing, its item has room, and with each item fewer bytes are held
   pub none : r.taken ≡ 0
-  pub room : r.count ≤ item_room
+  pub room : count_of r.item ≤ item_room
   pub onwards : (i : Item) (g : List ℕ) → said_closed on r ≡ last i g → length g < length (held_of on h)
   -- "A reader holds at most 67 bytes of a reply line and 10 of a request line", and 12 of it since W-202.
   pub few : r.held.len ≤ cap_of on
@@ -85,17 +85,17 @@ module _ (on : Line) (h : Held) where
               (prefix_waits (settle on) (lawful on) (length (held_of on h) + c) (held_of on h ++ p) w.1),
         )
 
-    fed_within : (r.taken ≤ length p) × (r.count ≤ item_room)
+    fed_within : (r.taken ≤ length p) × (count_of r.item ≤ item_room)
     fed_within = rw result (go (feed (settle on) (held_of on h) p) refl)
       where
-        go : (x : Fed) → feed (settle on) (held_of on h) p ≡ x → ((given_of p x).taken ≤ length p) × ((given_of p x).count ≤ item_room)
+        go : (x : Fed) → feed (settle on) (held_of on h) p ≡ x → ((given_of p x).taken ≤ length p) × (count_of (given_of p x).item ≤ item_room)
         go (nothing_yet g) e = (omega arith, omega arith)
         go (found j (reading k l) g) e = ((found_fewest (settle on) e).takes, found_fits on (held_of on h) p g j k l e)
 
     fed_few : r.held.len ≤ cap_of on
     fed_few =
         let e : r.held ≡ hold (held_of on r.held) =
-        ap (λ (x : Given). x.held) f.only ∙ given_held p r.got r.taken (take r.count r.bytes) (held_of on r.held) in
+        ap (λ (x : Given). x.held) f.only ∙ given_held p r.item r.taken (held_of on r.held) in
         rw (ap (λ (x : Held). x.len) e) (held_few on r.held)
 
     pub feed_promise : FeedPromise on h p r
@@ -115,11 +115,11 @@ module _ (on : Line) (h : Held) where
     closed_result : r ≡ closed_of (close (settle on) (held_of on h))
     closed_result = f.only ∙ ap closed_of f.says
 
-    closed_within : (r.taken ≡ 0) × (r.count ≤ item_room) × (r.held.len ≤ cap_of on)
+    closed_within : (r.taken ≡ 0) × (count_of r.item ≤ item_room) × (r.held.len ≤ cap_of on)
     closed_within = rw closed_result (go (close (settle on) (held_of on h)) refl)
       where
         go : (x : Closed) → close (settle on) (held_of on h) ≡ x
-            → ((closed_of x).taken ≡ 0) × ((closed_of x).count ≤ item_room) × ((closed_of x).held.len ≤ cap_of on)
+            → ((closed_of x).taken ≡ 0) × (count_of (closed_of x).item ≤ item_room) × ((closed_of x).held.len ≤ cap_of on)
         go empty e = (refl, omega arith, omega arith)
         go (last (reading k l) g) e =
             let n = held_few on h in (

@@ -1,6 +1,6 @@
 -- A reader of a line, as the code has it: what a state holds, what a call's result says, and the contracts of the two calls. Document 01,
 -- "Reading a line"; the words of a stream are those of the crate stream.
-use Rattle.std.specs.Prelude.{ℕ, ◌-◌, ◌≡◌, List, [], ◌++◌, length, take, replicate, leb}
+use Rattle.std.specs.Prelude.{ℕ, ◌-◌, ◌≡◌, List, [], ◌++◌, length, take, replicate, leb, Option, Some, None}
 use Rattle.refusal.specs.Test.{pick}
 use Rattle.stream.specs.Stream.{reading, Fed, nothing_yet, found, Closed, empty, last, feed, close}
 use Rattle.extent.specs.declared.Line.{Line}
@@ -9,8 +9,7 @@ use Rattle.extent.specs.Line.{cap_of, longest_of}
 use Rattle.line.specs.Rule.{settle}
 use Rattle.reader.specs.declared.Held.{Held}
 use Rattle.reader.specs.declared.Given.{Given}
-use Rattle.reader.specs.declared.Got.{Got}
-use Rattle.reader.specs.declared.Got.TheVariants.{Nothing, Item as Got-as-Item}
+use Rattle.reader.specs.declared.Item.{Item}
 
 -- the places of a state and of an item: as many as the longer line needs, the reply line
 abbrev pub held_room : ℕ
@@ -32,29 +31,34 @@ held_of on h = pick (leb h.len (cap_of on)) (take h.len h.bytes) []
 abbrev pub hold : List ℕ → Held
 hold l = record { bytes = pad held_room l; len = length l }
 
--- What a feeding call's result says, for each case of its enum: "nothing yet"; or an item, how many bytes were taken, the item's number and
--- its bytes. In both cases the bytes then held.
-abbrev pub fed_said : Got → ℕ → List ℕ → List ℕ → Fed
-fed_said Nothing j l g = nothing_yet g
-fed_said (Got-as-Item k) j l g = found j (reading k l) g
+-- What a feeding call's result says: where it has no item, "nothing yet"; else how many bytes were taken, the item's number and its bytes.
+-- In both cases the bytes then held.
+abbrev pub fed_said : Option Item → ℕ → List ℕ → Fed
+fed_said None j g = nothing_yet g
+fed_said (Some i) j g = found j (reading i.number (take i.count i.bytes)) g
 
 abbrev pub said_fed : Line → Given → Fed
-said_fed on r = fed_said r.got r.taken (take r.count r.bytes) (held_of on r.held)
+said_fed on r = fed_said r.item r.taken (held_of on r.held)
 
 -- what a closing call's result says: "empty"; or an item, by its number and its bytes, and the bytes then held
-abbrev pub closed_said : Got → List ℕ → List ℕ → Closed
-closed_said Nothing l g = empty
-closed_said (Got-as-Item k) l g = last (reading k l) g
+abbrev pub closed_said : Option Item → List ℕ → Closed
+closed_said None g = empty
+closed_said (Some i) g = last (reading i.number (take i.count i.bytes)) g
 
 abbrev pub said_closed : Line → Given → Closed
-said_closed on r = closed_said r.got (take r.count r.bytes) (held_of on r.held)
+said_closed on r = closed_said r.item (held_of on r.held)
+
+-- how many bytes the item has: none where there is none
+abbrev pub count_of : Option Item → ℕ
+count_of None = 0
+count_of (Some i) = i.count
 
 -- the result that says so and no more: no item, and some bytes held; or an item and its bytes. Every other byte is 0
 abbrev pub nothing_of : List ℕ → ℕ → Given
-nothing_of s j = record { held = hold s; taken = j; got = Nothing; count = 0; bytes = pad item_room [] }
+nothing_of s j = record { held = hold s; taken = j; item = None }
 
 abbrev pub item_of : ℕ → ℕ → List ℕ → List ℕ → Given
-item_of j k l g = record { held = hold g; taken = j; got = Got-as-Item k; count = length l; bytes = pad item_room l }
+item_of j k l g = record { held = hold g; taken = j; item = Some (record { number = k; count = length l; bytes = pad item_room l }) }
 
 -- of a part p: "If none is settled it takes all and answers 'nothing yet'."
 abbrev pub given_of : List ℕ → Fed → Given

@@ -1,10 +1,11 @@
 -- A feeding call looks at no more bytes than its line can need: those held, and of the part so many that the line's most held
 -- bytes and one are there. These say all.
-use Rattle.std.specs.Prelude.{ℕ, suc, ◌+◌, ◌-◌, ◌≤◌, ◌<◌, ◌≡◌, refl, Bool, true, false, List, [], ◌++◌, length, take, drop, replicate, ltb}
-use Rattle.std.proofs.Common.{sym, ap, ◌∙◌, length-append, take_all, take-take, length-take-le, ltb-true, ltb-false, arith}
+use Rattle.std.specs.Prelude.{ℕ, suc, ◌+◌, ◌-◌, ◌≤◌, ◌<◌, ◌≡◌, refl, Bool, true, false, List, [], ◌++◌, length, take, drop, ltb}
+use Rattle.std.proofs.Common.{sym, ap, ◌∙◌, length-append, take_at, take_all, take-take, length-take-le, ltb-true, ltb-false, arith}
 use Rattle.std.proofs.Math.Seq.{take-append-add}
 use Rattle.std.proofs.Math.Nat.{sub-zero}
 use Rattle.lent.specs.Puts.{Puts}
+use Rattle.lent.specs.Over.{puts_room, puts_length, puts_then}
 use Rattle.stream.specs.Stream.{More, Settled}
 use Rattle.stream.specs.Stream.{reading, nothing_yet, found, feed}
 use Rattle.stream.specs.Fewest.{feed_once, held_waits}
@@ -12,19 +13,17 @@ use Rattle.extent.specs.declared.Line.{Line}
 use Rattle.extent.specs.Line.{cap_of}
 use Rattle.line.specs.Rule.{settle}
 use Rattle.line.specs.Laws.{lawful, waits_few, by_few, in_window}
-use Rattle.reader.specs.declared.Window.{Window}
-use Rattle.reader.specs.Reader.{item_room, pad}
-use Rattle.reader.specs.Arrays.{length_pad, take_pad, filled_then}
+use Rattle.reader.specs.Reader.{item_room}
 use Rattle.reader.specs.Claims.{cap_fits}
 
 abbrev pub window_of : Line → List ℕ → List ℕ → List ℕ
 window_of on h p = take (suc (cap_of on)) (h ++ p)
 
--- an array with a run at its front
-pub record Joined (s : List ℕ) (r : Window) : Type 0 where
-  pub front : take r.len r.bytes ≡ s
-  pub count : r.len ≡ length s
-  pub room : length r.bytes ≡ item_room
+-- an array with a run at its front, of so many bytes
+pub record Joined (s : List ℕ) (r : ℕ) (b : List ℕ) : Type 0 where
+  pub front : take r b ≡ s
+  pub count : r ≡ length s
+  pub room : length b ≡ item_room
 
 module _ (on : Line) where
   -- nothing is held
@@ -52,22 +51,17 @@ module _ (on : Line) where
           let q : length h + t ≡ suc (cap_of on) = omega arith in
           sym (take-append-add h p t) ∙ rw q
 
-  -- an array of zeros into which the two were put
-  pub joins : (h p a b : List ℕ) (t m r : ℕ) → length h ≤ cap_of on → t ≤ length p → t ≤ suc (cap_of on) - length h
-      → (t < suc (cap_of on) - length h → t ≡ length p) → Puts h (replicate item_room 0) 0 m a → Puts (take t p) a m r b
-      → Joined (window_of on h p) (record { bytes = b; len = r })
-  joins h p a b t m r fits lp lr short first then =
+  -- an array into which the two were put
+  pub joins : (h p o a b : List ℕ) (t m r : ℕ) → length o ≡ item_room → length h ≤ cap_of on → t ≤ length p → t ≤ suc (cap_of on) - length h
+      → (t < suc (cap_of on) - length h → t ≡ length p) → Puts h o 0 m a → Puts (take t p) a m r b → Joined (window_of on h p) r b
+  joins h p o a b t m r lo fits lp lr short first then =
       let n : length (take t p) ≡ t = length-take-le t p lp in
       let w : h ++ take t p ≡ window_of on h p = window_is h p t fits lp lr short in
-      let room : length h + length (take t p) ≤ item_room = omega (arith, cap_fits on) in
-      let f = filled_then item_room h (take t p) m r a b room first then in
-      let e : b ≡ pad item_room (window_of on h p) = rw w at f.1 in
-      let c : r ≡ length (window_of on h p) = rw w at f.0 in
-      record {
-        front = rw (c, e) (take_pad item_room (window_of on h p));
-        count = c;
-        room = ap length e ∙ length_pad item_room (window_of on h p) (omega (arith, c, f.0, length-append h (take t p)));
-      }
+      let q = puts_then {t = h} {u = take t p} (omega (arith, cap_fits on)) first then in
+      let f = puts_room {t = h ++ take t p} {out = o} (omega (arith, length-append h (take t p), cap_fits on)) q in
+      let c : r ≡ length (h ++ take t p) = omega (arith, f.0) in
+      let e : take r b ≡ h ++ take t p = rw (f.1, c) (take_at (h ++ take t p) (drop (0 + length (h ++ take t p)) o) (length (h ++ take t p)) refl) in
+      record { front = e ∙ w; count = c ∙ ap length w; room = puts_length q ∙ lo }
 
   module _ (h p : List ℕ) (waits : settle on h ≡ More) where
     pub resume_takes : (k m d : ℕ) → settle on (window_of on h p) ≡ Settled k m d → length h ≤ d

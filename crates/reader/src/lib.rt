@@ -10,15 +10,14 @@
 #![tactic(auto)]
 
 ghost use Rattle.std.specs.Prelude.{◌≤◌, ◌≡◌, [], length};
-ghost use Rattle.stream.specs.Stream.{More, feed as feedOf};
+ghost use Rattle.stream.specs.Stream.{More, feed};
 ghost use Rattle.extent.specs.Line.{cap_of};
 ghost use Rattle.line.specs.Rule.{settle};
 ghost use Rattle.reader.specs.Reader.{held_room, item_room, pad, held_of, hold, given_of, nothing_of, Feeds, Closes};
 ghost use Rattle.reader.specs.Window.{Joined, window_of};
 ghost use Rattle.reader.specs.Calls.{cut_of};
 
-use line::{At, Line};
-use stream::Step;
+use line::Line;
 
 // The places of an item and of a state: those of the longest reply, and one less.
 pub const ITEM_ROOM: usize = line::REPLY_LONGEST;
@@ -33,29 +32,21 @@ pub struct Held {
     pub len: usize,
 }
 
-// Nothing yet (feeding) or empty (closing); or an item, by its number.
-#[derive(Drop)]
-pub enum Got {
-    Nothing,
-    Item(u8),
-}
-
-// What a call gives: how many bytes of the part it took (none in closing), the item with the count of its bytes and these in
-// front of zeros, and the reader afterwards.
-#[derive(Drop)]
-pub struct Given {
-    pub held: Held,
-    pub taken: usize,
-    pub got: Got,
+// An item, by its number, with the count of its bytes and these in front of zeros.
+#[derive(Clone, Copy)]
+pub struct Item {
+    pub number: u8,
     pub count: usize,
     pub bytes: [u8; ITEM_ROOM],
 }
 
-// Some bytes, at the front of an array.
-#[derive(Drop)]
-struct Window {
-    bytes: [u8; ITEM_ROOM],
-    len: usize,
+// What a call gives: the reader afterwards, how many bytes of the part it took (none in closing), and an item, or nothing yet (feeding) or
+// empty (closing).
+#[derive(Clone, Copy)]
+pub struct Given {
+    pub held: Held,
+    pub taken: usize,
+    pub item: Option<Item>,
 }
 
 // A reader that holds nothing.
@@ -63,7 +54,7 @@ pub fn fresh() -> Held
     ensures { result ≡ hold [] }
 {
     Held {
-        bytes: [0u8; HELD_ROOM],
+        bytes: [0; HELD_ROOM],
         len: 0,
     }
 }
@@ -78,16 +69,16 @@ fn holds(line: Line, h: Held) -> usize
 }
 
 // The bytes of a run, and zeros behind them. (Most items of a noisy line have one byte.)
-fn wide(s: &[u8]) -> [u8; ITEM_ROOM]
-    requires { length s.now ≤ item_room }
-    ensures { result ≡ pad item_room s.now }
+fn padded<const N: usize>(s: &[u8]) -> [u8; N]
+    requires { length s.now ≤ N }
+    ensures { result ≡ pad N s.now }
 {
-    let mut bytes = [0u8; ITEM_ROOM];
+    let mut bytes = [0; N];
     if s.len() == 1 {
         lent::byte(&mut bytes, 0, s[0]);
-        return bytes;
+    } else {
+        lent::word(&mut bytes, 0, s);
     }
-    lent::word(&mut bytes, 0, s);
     bytes
 }
 
@@ -96,9 +87,10 @@ fn kept(s: &[u8]) -> Held
     requires { length s.now ≤ held_room }
     ensures { result ≡ hold s.now }
 {
-    let mut bytes = [0u8; HELD_ROOM];
-    let len = lent::word(&mut bytes, 0, s);
-    Held { bytes, len }
+    Held {
+        bytes: padded(s),
+        len: s.len(),
+    }
 }
 
 // The first m bytes of a run as an item; the others are held. (Mostly there are none.)
@@ -106,23 +98,16 @@ fn cut(s: &[u8], m: usize, taken: usize, number: u8) -> Given
     requires { (1 ≤ m) × (m ≤ length s.now) × (length s.now ≤ item_room) }
     ensures { result ≡ cut_of s.now m taken number }
 {
-    let bytes = wide(&s[..m]);
-    if s.len() == m {
-        return Given {
-            held: fresh(),
-            taken,
-            got: Got::Item(number),
-            count: m,
-            bytes,
-        };
-    }
-    let held = kept(&s[m..]);
+    let item = Item {
+        number,
+        count: m,
+        bytes: padded(&s[..m]),
+    };
+    let held = if s.len() == m { fresh() } else { kept(&s[m..]) };
     Given {
         held,
         taken,
-        got: Got::Item(number),
-        count: m,
-        bytes,
+        item: Some(item),
     }
 }
 
@@ -131,54 +116,45 @@ fn nothing(s: &[u8], taken: usize) -> Given
     requires { length s.now ≤ held_room }
     ensures { result ≡ nothing_of s.now taken }
 {
-    let held = kept(s);
     Given {
-        held,
+        held: kept(s),
         taken,
-        got: Got::Nothing,
-        count: 0,
-        bytes: [0u8; ITEM_ROOM],
+        item: None,
     }
 }
 
 // A feeding call where nothing is held.
 fn begin(line: Line, part: &[u8]) -> Given
-    ensures { result ≡ given_of part.now (feedOf (settle line) [] part.now) }
+    ensures { result ≡ given_of part.now (feed (settle line) [] part.now) }
 {
-    let step = line::settled(line, part);
-    match step {
-        Step::Item(k, m, d) => cut(&part[..d], m, d, k),
-        Step::More => nothing(part, part.len()),
+    match line::settled(line, part) {
+        Some(step) => cut(&part[..step.settled], step.size, step.settled, step.number),
+        None => nothing(part, part.len()),
     }
 }
 
-// The bytes held, and behind them as many of the part as the line can need.
-fn join(line: Line, held: &[u8], part: &[u8]) -> Window
+// Puts the bytes held, and behind them as many of the part as the line can need, in front of an array, and says how many they are.
+fn join(line: Line, held: &[u8], part: &[u8], bytes: &mut [u8; ITEM_ROOM]) -> usize
     requires { length held.now ≤ cap_of line }
-    ensures { Joined (window_of line held.now part.now) result }
+    ensures { Joined (window_of line held.now part.now) result bytes.new }
 {
-    let room = line::most(line) + 1 - held.len();
-    let t = if part.len() < room { part.len() } else { room };
-    let mut bytes = [0u8; ITEM_ROOM];
-    let n = lent::word(&mut bytes, 0, held);
-    let len = lent::word(&mut bytes, n, &part[..t]);
-    Window { bytes, len }
+    let t = part.len().min(line::most(line) + 1 - held.len());
+    let n = lent::word(bytes, 0, held);
+    lent::word(bytes, n, &part[..t])
 }
 
 // A feeding call where the bytes held settle nothing.
 fn resume(line: Line, held: &[u8], part: &[u8]) -> Given
     requires { settle line held.now ≡ More }
-    ensures { result ≡ given_of part.now (feedOf (settle line) held.now part.now) }
+    ensures { result ≡ given_of part.now (feed (settle line) held.now part.now) }
 {
     let n = held.len();
-    let w = join(line, held, part);
-    let bytes = w.bytes;
-    let e = w.len;
+    let mut bytes = [0; ITEM_ROOM];
+    let e = join(line, held, part, &mut bytes);
     let s = &bytes[..e];
-    let step = line::settled(line, s);
-    match step {
-        Step::Item(k, m, d) => cut(&s[..d], m, d - n, k),
-        Step::More => nothing(s, e - n),
+    match line::settled(line, s) {
+        Some(step) => cut(&s[..step.settled], step.size, step.settled - n, step.number),
+        None => nothing(s, e - n),
     }
 }
 
@@ -190,12 +166,10 @@ pub fn feed(line: Line, h: Held, part: &[u8]) -> Given
     if n == 0 {
         return begin(line, part);
     }
-    let bytes = h.bytes;
-    let held = &bytes[..n];
-    let step = line::settled(line, held);
-    match step {
-        Step::Item(k, m, _) => cut(held, m, 0, k),
-        Step::More => resume(line, held, part),
+    let held = &h.bytes[..n];
+    match line::settled(line, held) {
+        Some(step) => cut(held, step.size, 0, step.number),
+        None => resume(line, held, part),
     }
 }
 
@@ -204,11 +178,9 @@ pub fn close(line: Line, h: Held) -> Given
     ensures { Closes line h result }
 {
     let n = holds(line, h);
-    let bytes = h.bytes;
-    let held = &bytes[..n];
-    let at = line::item_at(line, true, held);
-    match at {
-        At::Item(k, m) => cut(held, m, 0, k),
-        At::Nothing => nothing(held, 0),
+    let held = &h.bytes[..n];
+    match line::item_at(line, true, held) {
+        Some(item) => cut(held, item.size, 0, item.number),
+        None => nothing(held, 0),
     }
 }

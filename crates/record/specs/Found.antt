@@ -1,5 +1,6 @@
 -- What stands at the front of a run, told by its part and its datagram; and what a good record has.
-use Rattle.std.specs.Prelude.{ℕ, ◌+◌, ◌-◌, ◌≤◌, ◌<◌, ◌≡◌, List, [], ◌∷◌, ◌++◌, get_or, drop, leb}
+use Rattle.std.specs.Int.{to_be_bytes, w32}
+use Rattle.std.specs.Prelude.{ℕ, ◌+◌, ◌-◌, ◌/◌, ◌%◌, ◌≤◌, ◌<◌, ◌≡◌, List, [], ◌∷◌, ◌++◌, get_or, drop, leb}
 use Rattle.std.proofs.Math.Path.{refl, ap}
 use Rattle.std.proofs.Common.{sym, ◌∙◌, length-append, length-take, length-drop, drop-drop, get_or-drop, arith}
 use Rattle.std.proofs.Math.ListN.{length, take}
@@ -13,6 +14,7 @@ use Rattle.led.specs.Cut.{part_there}
 use Rattle.lent.specs.Puts.{Puts, no_room}
 use Rattle.lent.specs.Over.{puts_then}
 use Rattle.order.specs.Big.{big_bytes}
+use Rattle.order.specs.Native.{be_four}
 use Rattle.order.specs.Numbers.{length_big}
 use Rattle.record.specs.Record.{record_bytes, record_size, Entry, seconds_in, datagram_in, with_event, with_part, record_at, standing}
 
@@ -79,26 +81,29 @@ pub part_from : (s : List ℕ) (at n : ℕ) → 4 ≤ n → take (at + 2 + n - (
 part_from s at n h = let e : at + 2 + n - (at + 6) ≡ n - 4 = omega arith in rw (e, drop-drop 6 at s)
 
 -- and what stands there, by what the datagram says
-module _ (w : ℕ) (s : List ℕ) (at n : ℕ) (four : 4 ≤ n) (a : Answer Told) (r : a ≡ read_event w (take (at + 2 + n - (at + 6)) (drop (at + 6) s))) where
-  said_part_lem : read_event w (datagram_in n (drop at s)) ≡ a
-  said_part_lem = ap (read_event w) (sym (part_from s at n four)) ∙ sym r
+module _ (w : ℕ) (s : List ℕ) (at n : ℕ) (four : 4 ≤ n) where
+  said_part_lem : {a : Answer Told} → a ≡ read_event w (take (at + 2 + n - (at + 6)) (drop (at + 6) s)) → read_event w (datagram_in n (drop at s)) ≡ a
+  said_part_lem r = ap (read_event w) (sym (part_from s at n four)) ∙ sym r
 
-  pub part_bad : (k : ℕ) → a ≡ refused k → refused 15 ≡ standing at (with_event (read_event w (datagram_in n (drop at s))) n (drop at s))
-  part_bad k e = rw (said_part_lem, e)
+  pub part_bad : {k : ℕ} → refused k ≡ read_event w (take (at + 2 + n - (at + 6)) (drop (at + 6) s))
+      → refused 15 ≡ standing at (with_event (read_event w (datagram_in n (drop at s))) n (drop at s))
+  part_bad r = rw (said_part_lem r)
 
-  pub part_good : (e : Told) (t : ℕ) → at + 2 + n ≤ length s → a ≡ full e → t ≡ seconds_in (drop at s)
-      → full (record { seconds = t; event = e; next = at + 2 + n })
-      ≡ standing at (with_event (read_event w (datagram_in n (drop at s))) n (drop at s))
-  part_good e t room q f =
+  pub part_good : (e : Told) (t : ℕ) → full e ≡ read_event w (take (at + 2 + n - (at + 6)) (drop (at + 6) s)) → at + 2 + n ≤ length s
+      → t ≡ seconds_in (drop at s)
+      → full (record { seconds = t; event = e; next = at + 2 + n }) ≡ standing at (with_event (read_event w (datagram_in n (drop at s))) n (drop at s))
+  part_good e t r room f =
       let l : length (datagram_in n (drop at s)) ≡ n - 4 = simp (length-take, length-drop) (omega arith) in
       let u : at + 2 + n ≡ at + record_size (datagram_in n (drop at s)) = omega (arith, l) in
-      rw (said_part_lem, q) (ap full (λ i. record { seconds = f i; event = e; next = u i }))
+      rw (said_part_lem r) (ap full (λ i. record { seconds = f i; event = e; next = u i }))
 
 -- where a record has no room, and where it is put in two steps
 pub record_room : (t : ℕ) (d out : List ℕ) (at : ℕ) → length out < at + record_size d → Puts (record_bytes t d) out at at out
 record_room t d out at h = no_room (record_bytes t d) out at (omega (arith, record_length t d))
 
-pub record_put : (t : ℕ) (d out o o' : List ℕ) (at m r : ℕ) → at + record_size d ≤ length out
-    → Puts (big_bytes 2 (4 + length d) ++ big_bytes 4 t) out at m o → Puts d o m r o' → Puts (record_bytes t d) out at r o'
-record_put t d out o o' at m r h p q =
-    puts_then {t = big_bytes 2 (4 + length d) ++ big_bytes 4 t} {u = d} {out = out} {o = o} {o' = o'} {at = at} {m = m} {r = r} (omega arith) p q
+pub record_put : (t : ℕ) (d out o o' s : List ℕ) (at m r : ℕ) → at + record_size d ≤ length out → s ≡ to_be_bytes w32 t
+    → Puts ((4 + length d) / 256 % 256 ∷ (4 + length d) % 256 ∷ get_or s 0 0 ∷ get_or s 1 0 ∷ get_or s 2 0 ∷ get_or s 3 0 ∷ []) out at m o
+    → Puts d o m r o' → Puts (record_bytes t d) out at r o'
+record_put t d out o o' s at m r h e p q =
+    let f : Puts (big_bytes 2 (4 + length d) ++ big_bytes 4 t) out at m o = rw (e, be_four t) at p in
+    puts_then {t = big_bytes 2 (4 + length d) ++ big_bytes 4 t} {u = d} {out = out} {o = o} {o' = o'} {at = at} {m = m} {r = r} (omega arith) f q

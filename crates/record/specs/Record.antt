@@ -1,6 +1,6 @@
 -- A record of a capture. Document 02, W-207: "records, each a two-byte length first, then seconds in four bytes, then the datagram, all
 -- big-endian. The length counts what follows it."
-use Rattle.std.specs.Prelude.{ℕ, ◌+◌, ◌-◌, List, ◌++◌, length, take, drop, leb}
+use Rattle.std.specs.Prelude.{ℕ, Option, Some, None, ◌+◌, ◌-◌, List, ◌++◌, length, take, drop, leb}
 use Rattle.refusal.specs.Answer.{Answer, refused, full, demand}
 use Rattle.frame.specs.Frame.{listed}
 use Rattle.order.specs.Order.{high_first, number_in}
@@ -8,8 +8,6 @@ use Rattle.order.specs.Big.{big_bytes}
 use Rattle.event.specs.Reading.{Told, said_event, read_event}
 use Rattle.led.specs.Led.{part_at}
 use Rattle.record.specs.declared.Stored.{Stored}
-use Rattle.record.specs.declared.Standing.{Standing}
-use Rattle.record.specs.declared.Standing.TheVariants.{Good, Bad}
 
 -- the bytes of a record
 abbrev pub record_bytes : ℕ → List ℕ → List ℕ
@@ -63,6 +61,6 @@ standing at (full r) = full (stood_at at r)
 abbrev pub said_stored : Stored → Stood
 said_stored x = record { seconds = x.seconds; event = said_event x.event; next = x.next }
 
-abbrev pub said : Standing → Answer Stood
-said (Good x) = full (said_stored x)
-said Bad = refused 15
+abbrev pub said_standing : Option Stored → Answer Stood
+said_standing (Some x) = full (said_stored x)
+said_standing None = refused 15

@@ -6,10 +6,9 @@ ghost use Rattle.std.specs.Prelude.{◌+◌, ◌≤◌, ◌≡◌, length, drop}
 ghost use Rattle.lent.specs.Puts.{Puts};
 ghost use Rattle.event.specs.Layout.{width_of};
 ghost use Rattle.event.specs.Reading.{read_event};
-ghost use Rattle.record.specs.Record.{record_bytes, seconds_in, datagram_in, with_event, record_at, standing, said};
+ghost use Rattle.record.specs.Record.{record_bytes, seconds_in, datagram_in, with_event, record_at, standing, said_standing};
 
-use event::{Event, Layout, Reading};
-use led::Part;
+use event::{Event, Layout};
 
 // "The length counts what follows it": seconds in four bytes, then the datagram. The bytes of a record in front of its datagram.
 const SECONDS: usize = 4;
@@ -18,18 +17,11 @@ pub const HEAD: usize = 2 + SECONDS;
 
 // A good record: its seconds, what its datagram says, and the place behind it. The datagram begins HEAD bytes behind the record's place
 // and ends at the next place.
-#[derive(Drop)]
+#[derive(Clone, Copy, Debug, PartialEq, Eq)]
 pub struct Stored {
     pub seconds: u32,
     pub event: Event,
     pub next: usize,
-}
-
-// What stands at a place of a run.
-#[derive(Drop)]
-pub enum Standing {
-    Good(Stored),
-    Bad,
 }
 
 // The seconds of the record at a place.
@@ -41,38 +33,31 @@ fn seconds_at(s: &[u8], at: usize) -> u32
 }
 
 // The record at a place, where so many bytes follow its length.
-fn read_part(layout: Layout, s: &[u8], at: usize, n: usize) -> Standing
+fn read_part(layout: Layout, s: &[u8], at: usize, n: usize) -> Option<Stored>
     requires { (4 ≤ n) × (at + 2 + n ≤ length s.now) }
-    ensures { said result ≡ standing at (with_event (read_event (width_of layout) (datagram_in n (drop at s.now))) n (drop at s.now)) }
+    ensures { said_standing result ≡ standing at (with_event (read_event (width_of layout) (datagram_in n (drop at s.now))) n (drop at s.now)) }
 {
     let start = at + HEAD;
     let next = at + 2 + n;
-    let r = event::read(layout, &s[start..next]);
-    match r {
-        Reading::Refused(_) => Standing::Bad,
-        Reading::Accepted(event) => Standing::Good(Stored {
-            seconds: seconds_at(s, at),
-            event,
-            next,
-        }),
-    }
+    let Ok(event) = event::read(layout, &s[start..next]) else {
+        return None;
+    };
+    Some(Stored {
+        seconds: seconds_at(s, at),
+        event,
+        next,
+    })
 }
 
-// The record that begins at a place of a run, whose datagrams have this layout.
-pub fn read(layout: Layout, s: &[u8], at: usize) -> Standing
-    ensures { said result ≡ standing at (record_at (width_of layout) (drop at s.now)) }
+// The record that begins at a place of a run, whose datagrams have this layout; none where no good one does.
+pub fn read(layout: Layout, s: &[u8], at: usize) -> Option<Stored>
+    ensures { said_standing result ≡ standing at (record_at (width_of layout) (drop at s.now)) }
 {
-    let p = led::part_at(s, at);
-    match p {
-        Part::Cut => Standing::Bad,
-        Part::Follows(n) => {
-            if n < SECONDS {
-                Standing::Bad
-            } else {
-                read_part(layout, s, at, n)
-            }
-        }
+    let n = led::part_at(s, at)?;
+    if n < SECONDS {
+        return None;
     }
+    read_part(layout, s, at, n)
 }
 
 // Puts a record over what stands in a buffer from a place on, and answers the place behind it. Where it has no room, nothing is written
@@ -80,25 +65,13 @@ pub fn read(layout: Layout, s: &[u8], at: usize) -> Standing
 pub fn put(out: &mut [u8], at: usize, seconds: u32, datagram: &[u8]) -> usize
     ensures { Puts (record_bytes seconds datagram.now) out.old at result out.new }
 {
-    if out.len() < at {
+    if out.len() < at || out.len() - at < HEAD + datagram.len() {
         return at;
     }
-    let left = out.len() - at;
-    if left < HEAD {
-        return at;
-    }
-    if left - HEAD < datagram.len() {
-        return at;
-    }
+    // a datagram may be longer than its length can say, so no u16 holds this number: its two low bytes are written
     let n = SECONDS + datagram.len();
-    let head = [
-        (n / 256 % 256) as u8,
-        (n % 256) as u8,
-        (seconds / 256 / 256 / 256 % 256) as u8,
-        (seconds / 256 / 256 % 256) as u8,
-        (seconds / 256 % 256) as u8,
-        (seconds % 256) as u8,
-    ];
-    let a = lent::word(out, at, &head);
-    lent::word(out, a, datagram)
+    let [a, b, c, d] = seconds.to_be_bytes();
+    let head = [(n / 256 % 256) as u8, (n % 256) as u8, a, b, c, d];
+    let e = lent::word(out, at, &head);
+    lent::word(out, e, datagram)
 }

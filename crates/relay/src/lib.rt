@@ -2,7 +2,7 @@
 // byte for byte, or 8 where the buffer is too short; else the answer is the reader's refusal. A request that is marked as retired is
 // written no more: 17. No profile is chosen. It leans on crates request, reply and event. Demand 2: "writing a frame that was read gives its bytes back, where the
 // buffer is long enough"; document 02, W-210: "Demand 2's writing half leaves 0A out from then on."
-#![tactic(auto)]
+#![tactic(auto, using(reply::specs::Fits::read_fits, event::specs::Fits::read_fits))]
 
 ghost use Rattle.frame.specs.Written.{Written};
 ghost use Rattle.frame.specs.Relay.{relayed};
@@ -15,16 +15,15 @@ ghost use Rattle.event.specs.Layout.{width_of};
 ghost use Rattle.event.specs.Reading.{read_event};
 
 use event::Layout;
-use frame::Wrote;
 use profile::Profile;
+use refusal::Refusal;
 use request::{Contents, Request};
 
 // Writes a request that was read.
-fn request_again(r: Request, out: &mut [u8]) -> Wrote
+fn request_again(r: Request, out: &mut [u8]) -> Result<usize, Refusal>
     ensures { Written (writer_of Open (fields_of (said_request r))) out.old result out.new }
 {
-    let contents = r.contents;
-    match contents {
+    match r.contents {
         Contents::Basic {
             arguments,
             meaning: _,
@@ -45,41 +44,32 @@ fn request_again(r: Request, out: &mut [u8]) -> Wrote
     }
 }
 
-pub fn request(s: &[u8], out: &mut [u8]) -> Wrote
+pub fn request(s: &[u8], out: &mut [u8]) -> Result<usize, Refusal>
     ensures { Written (handed_on (read_request s.now) s.now) out.old result out.new }
 {
-    let reading = request::read(s);
-    match reading {
-        request::Reading::Refused(k) => Wrote::Refused(k),
-        request::Reading::Accepted(r) => request_again(r, out),
-    }
+    request_again(request::read(s)?, out)
 }
 
-pub fn reply(s: &[u8], out: &mut [u8]) -> Wrote
+pub fn reply(s: &[u8], out: &mut [u8]) -> Result<usize, Refusal>
     ensures { Written (relayed (read_reply s.now) s.now) out.old result out.new }
 {
-    let r = reply::read(s);
-    match r {
-        reply::Reading::Accepted(reply) => {
-            let end = reply.n + reply::DATA_AT;
-            writers::reply(reply.kind, reply.sequence, &s[reply::DATA_AT..end], out)
-        }
-        reply::Reading::Refused(k) => Wrote::Refused(k),
-    }
+    let reply = reply::read(s)?;
+    let data = &s[reply::DATA_AT..reply::DATA_AT + reply.n];
+    writers::reply(reply.kind, reply.sequence, data, out)
 }
 
-pub fn event(layout: Layout, s: &[u8], out: &mut [u8]) -> Wrote
+pub fn event(layout: Layout, s: &[u8], out: &mut [u8]) -> Result<usize, Refusal>
     ensures { Written (relayed (read_event (width_of layout) s.now) s.now) out.old result out.new }
 {
-    let r = event::read(layout, s);
-    match r {
-        event::Reading::Accepted(event) => {
-            let mac = event.mac;
-            let kind = event.kind;
-            let at = layout.data_at();
-            let end = event.n + at;
-            writers::event(layout, mac, event.target, kind.number(), &s[at..end], out)
-        }
-        event::Reading::Refused(k) => Wrote::Refused(k),
-    }
+    let event = event::read(layout, s)?;
+    let at = layout.data_at();
+    let data = &s[at..at + event.n];
+    writers::event(
+        layout,
+        event.mac,
+        event.target,
+        event.kind.number(),
+        data,
+        out,
+    )
 }

@@ -1,14 +1,11 @@
 -- What is known of a datagram that was accepted.
-use Rattle.std.specs.Prelude.{ℕ, ◌+◌, ◌≤◌, ◌≡◌, List, length, take, drop, leb, eqb}
+use Rattle.std.specs.Prelude.{ℕ, ◌+◌, ◌≤◌, ◌≡◌, List, length, leb, eqb}
 use Rattle.std.proofs.Common.{ap, leb-true, eqb-true, arith}
 use Rattle.refusal.specs.Answer.{full, demand_elim, full_one}
 use Rattle.lead.specs.Lead.{is_reply, reply_data, reply_least}
-use Rattle.sum.specs.Bytes.{Bytes}
 use Rattle.sum.specs.Sum.{sum_of}
 use Rattle.frame.specs.Frame.{byte}
-use Rattle.reply.specs.Layout.{data_at}
 use Rattle.reply.specs.Reading.{read_reply}
-use Rattle.reply.specs.Writing.{reply_frame}
 use Rattle.reply.specs.declared.Reply.{Reply}
 
 -- an accepted reply has its data

@@ -3,7 +3,6 @@ pub mod Layout
 pub mod Reading
 pub mod Writing
 -- what is claimed of it
-pub mod Determined
 pub mod Demand2
 -- what only serves proofs
 pub mod Fits

@@ -4,11 +4,10 @@
 #![tactic(auto)]
 
 ghost use Rattle.std.specs.Prelude.{◌+◌, ◌≡◌};
-ghost use Rattle.refusal.specs.Answer.{full};
-ghost use Rattle.error.specs.Error.{name_of};
-ghost use Rattle.reply.specs.Reading.{said, said_code, read_reply, data_of, data_start, code_named, code_of};
+ghost use Rattle.refusal.specs.Answer.{said};
+ghost use Rattle.reply.specs.Reading.{read_reply, data_of, data_start, code_of};
 
-use error::Name;
+use refusal::Refusal;
 
 // "Reply, 4 + n bytes: type, sequence, n, n data bytes, sum": where the data begin.
 pub const DATA_AT: usize = 3;
@@ -17,51 +16,43 @@ pub const DATA_AT: usize = 3;
 const ERROR: u8 = 0xA3;
 
 // A reply: its type, A0 OK, A1 ANSWER, A2 NO_ANSWER or A3 ERROR, its sequence number, and how many data bytes it has.
-#[derive(Clone, Copy)]
+#[derive(Clone, Copy, Debug, PartialEq, Eq)]
 pub struct Reply {
     pub kind: u8,
     pub sequence: u8,
     pub n: usize,
 }
 
-// What reading a reply datagram answers.
-#[derive(Clone, Copy)]
-pub enum Reading {
-    Accepted(Reply),
-    Refused(u8),
-}
-
-// The error code of a reply: with the number of its name, kept as a number, or absent.
-#[derive(Clone, Copy)]
-pub enum Code {
-    Named { code: u8, name: u8 },
-    Number(u8),
-    Absent,
-    Refused(u8),
+// The error code of a reply, and the number of its name, where it has one.
+#[derive(Clone, Copy, Debug, PartialEq, Eq)]
+pub struct Code {
+    pub code: u8,
+    pub name: Option<u8>,
 }
 
 // What a datagram says as a reply: the lowest refusal that applies, or a full reading.
-pub fn read(s: &[u8]) -> Reading
+#[tactic(auto, unfolding(crate::specs::Reading::read_reply))]
+pub fn read(s: &[u8]) -> Result<Reply, Refusal>
     ensures { said result ≡ read_reply s.now }
 {
     if s.len() < lead::REPLY_LEAST {
-        return Reading::Refused(1);
+        return Err(Refusal::TooShort);
     }
     let kind = s[0];
     if !lead::is_reply(kind) {
-        return Reading::Refused(2);
+        return Err(Refusal::BadLead);
     }
     let n = s[2] as usize;
     if lead::REPLY_DATA < n {
-        return Reading::Refused(4);
+        return Err(Refusal::BadLengthByte);
     }
     if s.len() != n + lead::REPLY_LEAST {
-        return Reading::Refused(5);
+        return Err(Refusal::BadLength);
     }
     if sum::xor(s) != 0 {
-        return Reading::Refused(6);
+        return Err(Refusal::BadSum);
     }
-    Reading::Accepted(Reply {
+    Ok(Reply {
         kind,
         sequence: s[1],
         n,
@@ -69,50 +60,30 @@ pub fn read(s: &[u8]) -> Reading
 }
 
 // The data of a reply, as that part of the caller's own datagram; empty where the datagram is refused.
+#[tactic(auto, using(crate::specs::Fits::read_fits))]
 pub fn data(s: &[u8]) -> &[u8]
     ensures { (result.now ≡ data_of s.now)
         × (result.ref_ptr.0 ≡ s.entry.ref_ptr.0)
         × (result.ref_ptr.1 ≡ data_start s.now + s.entry.ref_ptr.1) }
 {
-    let r = read(s);
-    match r {
-        Reading::Accepted(reply) => {
-            let e = reply.n + DATA_AT;
-            &s[DATA_AT..e]
-        }
-        Reading::Refused(_) => {
-            let start = 0;
-            &s[start..start]
-        }
-    }
-}
-
-// A code with the number of its name, or kept as a number.
-fn named(code: u8) -> Code
-    ensures { said_code result ≡ full (code_named code (name_of code)) }
-{
-    let name = error::name_of(code);
-    match name {
-        Name::Number(n) => Code::Named { code, name: n },
-        Name::Nothing => Code::Number(code),
+    match read(s) {
+        Ok(reply) => &s[DATA_AT..DATA_AT + reply.n],
+        Err(_) => &s[..0],
     }
 }
 
 // The error code of an ERROR reply, its first data byte. Other replies, and an ERROR reply without data, have none.
-pub fn error_code(s: &[u8]) -> Code
-    ensures { said_code result ≡ code_of s.now }
+#[tactic(auto, using(crate::specs::Fits::read_fits))]
+pub fn error_code(s: &[u8]) -> Result<Option<Code>, Refusal>
+    ensures { said result ≡ code_of s.now }
 {
-    let r = read(s);
-    match r {
-        Reading::Accepted(reply) => {
-            if reply.kind != ERROR {
-                return Code::Absent;
-            }
-            if reply.n == 0 {
-                return Code::Absent;
-            }
-            named(s[DATA_AT])
-        }
-        Reading::Refused(k) => Code::Refused(k),
+    let reply = read(s)?;
+    if reply.kind != ERROR || reply.n == 0 {
+        return Ok(None);
     }
+    let code = s[DATA_AT];
+    Ok(Some(Code {
+        code,
+        name: error::name_of(code),
+    }))
 }

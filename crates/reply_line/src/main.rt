@@ -8,20 +8,13 @@ ghost use Rattle.reply_line.specs.Room.{RoomBehind, Roomy};
 
 use line::Line;
 use std::io::Read;
-use turns::{Act, After, Turn};
+use turns::{Act, Turn};
 
 // The most bytes with which a reply line's rule waits: 67, one less than its longest frame has.
 const HELD: usize = line::REPLY_LONGEST - 1;
 
 // The most bytes that one read gives, and the room for text, where a line has at most 142 bytes.
 const PART: usize = 65536;
-
-// What one turn comes to: the run goes on from there, or it stops.
-#[derive(Drop)]
-enum Then {
-    Go(Turn),
-    Stop,
-}
 
 // Reads once behind the bytes that are held, where there is always room.
 fn read_behind(input: &mut impl Read, buf: &mut [u8], held: usize) -> isize
@@ -33,47 +26,43 @@ fn read_behind(input: &mut impl Read, buf: &mut [u8], held: usize) -> isize
     }
 }
 
-// A turn that writes: so many bytes of the text, whole.
-fn write(rt: &(impl Print + Eprint), turn: Turn, out: &[u8], n: usize) -> Then
+// A turn that writes: so many bytes of the text, whole. Where that fails the run stops.
+fn write(rt: &(impl Print + Eprint), turn: Turn, out: &[u8], n: usize) -> Option<Turn>
     requires { n ≤ length out.now }
 {
-    if rt.write_all(&out[..n]).is_ok() {
-        return Then::Go(turn);
+    if rt.write_all(&out[..n]).is_err() {
+        let _ = rt.eprint("reply_line: writing standard output failed\n");
+        return None;
     }
-    let _ = rt.eprint("reply_line: writing standard output failed\n");
-    Then::Stop
+    Some(turn)
 }
 
-// A turn that reads.
-fn read(rt: &impl Eprint, input: &mut impl Read, turn: Turn, buf: &mut [u8]) -> Then
+// A turn that reads. Where that fails the run stops.
+fn read(rt: &impl Eprint, input: &mut impl Read, turn: Turn, buf: &mut [u8]) -> Option<Turn>
     requires { RoomBehind buf.old turn.end }
 {
     let got = read_behind(input, buf, turn.end);
-    let after = turns::read(turn, got, buf.len());
-    match after {
-        After::Goes(on) => Then::Go(on),
-        After::Failed => {
-            let _ = rt.eprint("reply_line: reading standard input failed\n");
-            Then::Stop
-        }
+    let on = turns::read(turn, got, buf.len());
+    if on.is_none() {
+        let _ = rt.eprint("reply_line: reading standard input failed\n");
     }
+    on
 }
 
-// One turn, as it is to be.
+// One turn, as it is to be: the run goes on from there, or it stops.
 fn go_on(
     rt: &(impl Print + Eprint),
     input: &mut impl Read,
     turn: Turn,
     buf: &mut [u8],
     out: &mut [u8],
-) -> Then
+) -> Option<Turn>
     requires { Roomy buf.old out.old }
 {
-    let act = turns::next(Line::Reply, turn, buf, out);
-    match act {
+    match turns::next(Line::Reply, turn, buf, out) {
         Act::Write(n, on) => write(rt, on, out, n),
         Act::Read(on) => read(rt, input, on, buf),
-        Act::Done => Then::Stop,
+        Act::Done => None,
     }
 }
 
@@ -83,8 +72,7 @@ fn run(rt: &(impl Print + Eprint), input: &mut impl Read, buf: &mut [u8], out: &
 {
     let mut turn = turns::fresh();
     for _ in 0..u64::MAX {
-        let then = go_on(rt, input, turn, buf, out);
-        let Then::Go(on) = then else {
+        let Some(on) = go_on(rt, input, turn, buf, out) else {
             return;
         };
         turn = on;

@@ -1,13 +1,11 @@
 -- The report told by what the code has found: the front of the capture, and the pass over its records.
-use Rattle.std.specs.Prelude.{ℕ, ◌+◌, ◌-◌, ◌≤◌, ◌<◌, ◌≡◌, true, false, List, ◌++◌, length, take, drop}
+use Rattle.std.specs.Prelude.{ℕ, ◌+◌, ◌-◌, ◌≤◌, ◌<◌, ◌≡◌, true, false, List, ◌++◌, take, drop}
 use Rattle.std.proofs.Math.Path.{refl, ap}
 use Rattle.std.proofs.Common.{sym, ◌∙◌, take-add, drop_at, length-take-le, arith}
 use Rattle.refusal.specs.Answer.{refused, full}
 use Rattle.event.specs.declared.Layout.{Layout}
 use Rattle.event.specs.Layout.{width_of}
-use Rattle.summary.specs.declared.Seconds.TheVariants.{Absent}
-use Rattle.summary.specs.declared.Went.TheVariants.{Well}
-use Rattle.capture.specs.Capture.{front_of, records_from, sizes_of, walked, start, records_in}
+use Rattle.capture.specs.Capture.{front_of, walked, start, records_in}
 use Rattle.capture.specs.Says.{front_used, opened_refused, opened_short, opened_open}
 use Rattle.year.specs.Whole.{records_of, front_is}
 use Rattle.season.specs.declared.Corridor.{Corridor}
@@ -17,10 +15,10 @@ use Rattle.tally.specs.Tally.{seasons_in}
 use Rattle.passing.specs.declared.Passed.{Passed}
 use Rattle.passing.specs.declared.Pass.{Pass}
 use Rattle.passing.specs.Passing.{none_passed, passed_over}
-use Rattle.report.specs.Report.{reported, reporting}
+use Rattle.report.specs.Report.{reported}
 
 module _ (b : List ℕ) (u : ℕ) (c : Corridor) (bounds : Boundaries) where
-  pub report_front : (k : ℕ) → front_of b u ≡ refused k → reporting (refused k) ≡ reporting (reported b u c bounds)
+  pub report_front : (k : ℕ) → front_of b u ≡ refused k → refused k ≡ reported b u c bounds
   unfolding reported
   report_front k e = rw (← opened_refused b u k e)
 
@@ -40,15 +38,15 @@ module _ (b : List ℕ) (u : ℕ) (c : Corridor) (bounds : Boundaries) where
     reaches : (walked (width_of l) (take u b) start).used ≡ 1 + p.at
     reaches = omega (arith, ap (λ (p : Pass). p.at) passes)
 
-    pub report_short : p.at < u - 1 → reporting (refused 15) ≡ reporting (reported b u c bounds)
+    pub report_short : p.at < u - 1 → refused 15 ≡ reported b u c bounds
     unfolding reported
     report_short h = rw (← opened_short b u l (walked (width_of l) (take u b) start) e refl (omega (arith, reaches)))
 
-    pub report_level : u - 1 ≤ p.at → rises bounds ≡ false → reporting (refused 20) ≡ reporting (reported b u c bounds)
+    pub report_level : u - 1 ≤ p.at → rises bounds ≡ false → refused 20 ≡ reported b u c bounds
     unfolding reported
     report_level h k = rw (← opened_open b u l (walked (width_of l) (take u b) start) e refl (omega (arith, reaches)), k)
 
-    pub report_full : u - 1 ≤ p.at → rises bounds ≡ true → record { went = Well; seasons = p.passed.tally.seasons } ≡ reporting (reported b u c bounds)
+    pub report_full : u - 1 ≤ p.at → rises bounds ≡ true → full p.passed.tally.seasons ≡ reported b u c bounds
     unfolding reported
     report_full h k =
         let s : p.passed.tally.seasons ≡ seasons_in c bounds (records_of b u) =

@@ -1,7 +1,6 @@
 -- Document 02, W-213: the report of a capture. "Refusals: 14 and 15 as before, then 20 for boundaries that do not rise."
 use Rattle.std.specs.Prelude.{ℕ, List}
 use Rattle.refusal.specs.Answer.{Answer, refused, full, demand}
-use Rattle.summary.specs.declared.Went.TheVariants.{Well, Refused}
 use Rattle.capture.specs.declared.Mark.{Mark}
 use Rattle.capture.specs.Capture.{opened}
 use Rattle.year.specs.Whole.{records_of}
@@ -9,8 +8,7 @@ use Rattle.season.specs.declared.Corridor.{Corridor}
 use Rattle.season.specs.declared.Boundaries.{Boundaries}
 use Rattle.season.specs.declared.Season.{Season}
 use Rattle.season.specs.Season.{rises}
-use Rattle.tally.specs.Tally.{no_tally, seasons_in}
-use Rattle.report.specs.declared.Reported.{Reported}
+use Rattle.tally.specs.Tally.{seasons_in}
 
 -- "14 and 15 as before": as a capture is opened
 abbrev pub on_opened : Answer Mark → Answer (List Season) → Answer (List Season)
@@ -20,8 +18,3 @@ on_opened (full m) then = then
 -- the four seasons of its records
 unfoldable pub reported : List ℕ → ℕ → Corridor → Boundaries → Answer (List Season)
 reported b u c bounds = on_opened (opened b u) (demand (rises bounds) 20 (full (seasons_in c bounds (records_of b u))))
-
--- what is answered: the seasons, or the refusal beside four of which nothing is counted
-abbrev pub reporting : Answer (List Season) → Reported
-reporting (full s) = record { went = Well; seasons = s }
-reporting (refused k) = record { went = Refused k; seasons = no_tally.seasons }

@@ -1,7 +1,7 @@
 -- Demand 2 for requests (crate frame says what it is), over the profile. Document 02, W-203: "demand 2's writing half holds where the profile is
 -- not chosen, and under it for the commands inside".
 use Prim.Native.Nat.{ℕ, ◌-◌, ◌/◌, ◌%◌, ◌<◌}
-use Rattle.std.specs.Prelude.{◌≡◌, Bool, true, false, not, length, take, drop, leb, ltb, eqb}
+use Rattle.std.specs.Prelude.{◌≡◌, Result, Bool, true, false, not, length, take, drop, leb, ltb, eqb}
 use Rattle.std.proofs.Math.Path.{refl, sym}
 use Rattle.std.proofs.Common.{ap, ◌∙◌, length-append, eqb-true, ltb-true, lt-ltb, arith}
 use mathlib.Core.List.{List, [], ◌∷◌}
@@ -13,7 +13,7 @@ use Rattle.sum.specs.Sum.{sum_of}
 use Rattle.frame.specs.Demand2 as family
 use Rattle.frame.specs.Demand2.{Demand2, demand2}
 use Rattle.frame.specs.Written.{Written}
-use Rattle.frame.specs.declared.Wrote.{Wrote}
+use Rattle.refusal.specs.declared.Refusal.{Refusal}
 use Rattle.frame.specs.Frame.{byte, sealed, sealed_sum, sealed_bytes, opened}
 use Rattle.order.specs.Big.{big_bytes}
 use Rattle.order.specs.Numbers.{number_of_bytes, bytes_of_number, number_below}
@@ -308,7 +308,7 @@ relay_frame d r bs e = go (mark_of r) refl
         asked (fields_of r)
         ((requests Open).written_read d r bs e (current_writable Open (fields_of r) (accepted_frame d r bs e).0 (sym mark ∙ u) refl))
 
-pub relays : (d : List ℕ) (r : Heard) {out p : List ℕ} {w : Wrote} → Bytes d → read_request d ≡ full r
+pub relays : (d : List ℕ) (r : Heard) {out p : List ℕ} {w : Result ℕ Refusal} → Bytes d → read_request d ≡ full r
     → Written (writer_of Open (fields_of r)) out w p → Written (handed_on (read_request d) d) out w p
 relays d r bs e w = rw e (rw (relay_frame d r bs e) at w)
 

@@ -1,5 +1,5 @@
 -- A colour request read as the code reads it: its colour data first, which gives 4 and 5, then sum and address.
-use Rattle.std.specs.Prelude.{ℕ, ◌+◌, ◌-◌, ◌≤◌, ◌≡◌, refl, Bool, true, false, List, length, eqb}
+use Rattle.std.specs.Prelude.{ℕ, ◌+◌, ◌≤◌, ◌≡◌, refl, Bool, true, false, List, length, eqb}
 use Rattle.std.proofs.Common.{sym, ◌∙◌, length-take, length-drop, eqb-true, eq-eqb, ne_eqb, arith}
 use Rattle.std.proofs.lemmas.Bool.{eqb-false}
 use Rattle.refusal.specs.Test.{clash}

@@ -1,15 +1,16 @@
 -- What is said of a reading leaves no choice: from it the case is told.
-use Rattle.std.specs.Prelude.{◌≡◌, refl}
+use Rattle.std.specs.Prelude.{◌≡◌, refl, Result}
 use Rattle.std.proofs.Common.{sym, ap, ◌∙◌}
-use Rattle.refusal.specs.Answer.{Answer, refused, full}
+use Rattle.refusal.specs.Answer.{said_of}
+use Rattle.refusal.specs.SaidOf.{said_of_one}
+use Rattle.refusal.specs.declared.Refusal.{Refusal}
 use Rattle.target.specs.Laws.{target_of, target_back}
 use Rattle.colour.specs.One.{colour_by, colour_back}
 use Rattle.meaning.specs.Laws.{meaning_by, meaning_back}
-use Rattle.request.specs.Said.{Inside, arguments, address, coloured, Heard, heard, said_contents, said}
+use Rattle.request.specs.Said.{Inside, arguments, address, coloured, Heard, heard, said_contents, said_request}
 use Rattle.request.specs.declared.Contents.{Contents}
 use Rattle.request.specs.declared.Contents.TheVariants.{Basic, Unicast, Colour}
-use Rattle.request.specs.declared.Reading.{Reading}
-use Rattle.request.specs.declared.Reading.TheVariants.{Accepted, Refused}
+use Rattle.request.specs.declared.Request.{Request}
 
 abbrev contents_by : Inside → Contents
 contents_by (arguments i j k l m) = Basic (record { a = i; b = j; c = k; d = l }) (meaning_by m)
@@ -21,15 +22,15 @@ contents_back (Basic x m) = ap (Basic x) (meaning_back m)
 contents_back (Unicast port ip) = refl
 contents_back (Colour target lights level tint) = rw (target_back lights, colour_back tint)
 
-abbrev reading_by : Answer Heard → Reading
-reading_by (refused k) = Refused k
-reading_by (full (heard s c r x)) = Accepted (record { sequence = s; command = c; retired = r; contents = contents_by x })
+abbrev request_by : Heard → Request
+request_by (heard s c r x) = record { sequence = s; command = c; retired = r; contents = contents_by x }
 
-reading_back : (x : Reading) → reading_by (said x) ≡ x
-reading_back (Refused k) = refl
-reading_back (Accepted r) =
-    ap (λ (x : Contents). Accepted (record { sequence = r.sequence; command = r.command; retired = r.retired; contents = x }))
-    (contents_back r.contents)
+request_back : (x : Request) → request_by (said_request x) ≡ x
+request_back x =
+    ap (λ (i : Contents). (record { sequence = x.sequence; command = x.command; retired = x.retired; contents = i })) (contents_back x.contents)
 
-pub said_one : (x y : Reading) → said x ≡ said y → x ≡ y
-said_one x y e = sym (reading_back x) ∙ ap reading_by e ∙ reading_back y
+pub request_one : (x y : Request) → said_request x ≡ said_request y → x ≡ y
+request_one x y e = sym (request_back x) ∙ ap request_by e ∙ request_back y
+
+pub said_one : (x y : Result Request Refusal) → said_of said_request x ≡ said_of said_request y → x ≡ y
+said_one = said_of_one said_request request_one

@@ -1,6 +1,5 @@
 -- What an accepted request says: its sequence number, its command, whether it is "marked as retired", and what lies behind them.
 use Rattle.std.specs.Prelude.{ℕ, Bool}
-use Rattle.refusal.specs.Answer.{Answer, refused, full}
 use Rattle.target.specs.Target.{Aim, said_target}
 use Rattle.colour.specs.Colour.{Hue, said_colour}
 use Rattle.meaning.specs.Meaning.{Sense, said_meaning}
@@ -8,8 +7,6 @@ use Rattle.request.specs.Layout.{Fields, basic, unicast, colour}
 use Rattle.request.specs.declared.Request.{Request}
 use Rattle.request.specs.declared.Contents.{Contents}
 use Rattle.request.specs.declared.Contents.TheVariants.{Basic, Unicast, Colour}
-use Rattle.request.specs.declared.Reading.{Reading}
-use Rattle.request.specs.declared.Reading.TheVariants.{Accepted, Refused}
 
 -- the four arguments and what they mean; or the port and the four bytes of an address; or the target, what
 -- it lights, the level and the colour (127 and 255 light the same, so the target is kept)
@@ -42,7 +39,3 @@ said_contents (Colour target lights level tint) = coloured target.0 (said_target
 
 abbrev pub said_request : Request → Heard
 said_request r = heard r.sequence r.command r.retired (said_contents r.contents)
-
-abbrev pub said : Reading → Answer Heard
-said (Refused k) = refused k
-said (Accepted r) = full (said_request r)

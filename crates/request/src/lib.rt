@@ -5,23 +5,25 @@
 #![tactic(auto)]
 
 ghost use Rattle.std.specs.Prelude.{◌≡◌, ◌≤◌, length};
+ghost use Rattle.refusal.specs.Answer.{said_of};
 ghost use Rattle.frame.specs.Frame.{byte};
 ghost use Rattle.command.specs.Command.{is_retired};
 ghost use Rattle.colour.specs.Colour.{said_colour, hue_in};
-ghost use Rattle.request.specs.Said.{said};
+ghost use Rattle.request.specs.Said.{said_request};
 ghost use Rattle.request.specs.Reading.{read_request, read_basic, read_unicast, colour_data, judged, read_coloured};
 
 use colour::Colour;
-use command::{Rule, Shape};
+use command::{Command, Rule, Shape};
 use meaning::{Arguments, Meaning};
+use refusal::Refusal;
 use target::{LineTarget, Target};
 
 // An IPv4 address, in the order in which it is written.
-#[derive(Clone, Copy)]
+#[derive(Clone, Copy, Debug, PartialEq, Eq)]
 pub struct Ipv4(pub u8, pub u8, pub u8, pub u8);
 
 // What a request holds behind its header. A colour request keeps its target beside what that lights: 127 and 255 are both broadcast.
-#[derive(Clone, Copy)]
+#[derive(Clone, Copy, Debug, PartialEq, Eq)]
 pub enum Contents {
     Basic {
         arguments: Arguments,
@@ -40,7 +42,7 @@ pub enum Contents {
 }
 
 // A request that was read. One whose command is retired is "marked as retired" and reads as before.
-#[derive(Clone, Copy)]
+#[derive(Clone, Copy, Debug, PartialEq, Eq)]
 pub struct Request {
     pub sequence: u8,
     pub command: u8,
@@ -48,33 +50,27 @@ pub struct Request {
     pub contents: Contents,
 }
 
-// What reading a request datagram answers.
-#[derive(Clone, Copy)]
-pub enum Reading {
-    Accepted(Request),
-    Refused(u8),
-}
-
 // A basic request whose command has this rule and this mark.
-fn read_basic(rule: Rule, retired: bool, s: &[u8]) -> Reading
+#[tactic(auto, unfolding(crate::specs::Reading::read_basic))]
+fn read_basic(rule: Rule, retired: bool, s: &[u8]) -> Result<Request, Refusal>
     requires { (8 ≤ length s.now) × (retired ≡ is_retired (byte 2 s.now)) }
-    ensures { said result ≡ read_basic rule s.now }
+    ensures { said_of said_request result ≡ read_basic rule s.now }
 {
     if s.len() != command::BASIC_BYTES {
-        return Reading::Refused(5);
+        return Err(Refusal::BadLength);
     }
     if sum::xor(s) != 0 {
-        return Reading::Refused(6);
+        return Err(Refusal::BadSum);
     }
     let a = s[3];
     let b = s[4];
     let c = s[5];
     let d = s[6];
     if !ranges::fits(rule, a, b, c, d) {
-        return Reading::Refused(7);
+        return Err(Refusal::BadArgument);
     }
     let meaning = meaning::meaning_of(rule, a, b, c, d);
-    Reading::Accepted(Request {
+    Ok(Request {
         sequence: s[1],
         command: s[2],
         retired,
@@ -86,21 +82,22 @@ fn read_basic(rule: Rule, retired: bool, s: &[u8]) -> Reading
 }
 
 // Request 40, with the mark of its command.
-fn read_unicast(retired: bool, s: &[u8]) -> Reading
+#[tactic(auto, unfolding(crate::specs::Reading::read_unicast))]
+fn read_unicast(retired: bool, s: &[u8]) -> Result<Request, Refusal>
     requires { (8 ≤ length s.now) × (retired ≡ is_retired (byte 2 s.now)) }
-    ensures { said result ≡ read_unicast s.now }
+    ensures { said_of said_request result ≡ read_unicast s.now }
 {
     if s[3] != command::UNICAST_LENGTH {
-        return Reading::Refused(4);
+        return Err(Refusal::BadLengthByte);
     }
     if s.len() != command::UNICAST_BYTES {
-        return Reading::Refused(5);
+        return Err(Refusal::BadLength);
     }
     if sum::xor(s) != 0 {
-        return Reading::Refused(6);
+        return Err(Refusal::BadSum);
     }
     let port = order::high_first(s[4], s[5]);
-    Reading::Accepted(Request {
+    Ok(Request {
         sequence: s[1],
         command: s[2],
         retired,
@@ -112,19 +109,19 @@ fn read_unicast(retired: bool, s: &[u8]) -> Reading
 }
 
 // A colour request whose colour was read: its sum and its address.
-fn read_coloured(colour: Colour, retired: bool, s: &[u8]) -> Reading
+fn read_coloured(colour: Colour, retired: bool, s: &[u8]) -> Result<Request, Refusal>
     requires { (8 ≤ length s.now) × (retired ≡ is_retired (byte 2 s.now)) × (said_colour colour ≡ hue_in (byte 5 s.now) (colour_data s.now)) }
-    ensures { said result ≡ judged s.now }
+    ensures { said_of said_request result ≡ judged s.now }
 {
     if sum::xor(s) != 0 {
-        return Reading::Refused(6);
+        return Err(Refusal::BadSum);
     }
     let address = s[3];
     if !target::is_lighting(address) {
-        return Reading::Refused(7);
+        return Err(Refusal::BadArgument);
     }
     let target = LineTarget(address);
-    Reading::Accepted(Request {
+    Ok(Request {
         sequence: s[1],
         command: s[2],
         retired,
@@ -138,33 +135,30 @@ fn read_coloured(colour: Colour, retired: bool, s: &[u8]) -> Reading
 }
 
 // A colour request: its colour data stands between its type and its sum.
-fn read_colour(retired: bool, s: &[u8]) -> Reading
+#[tactic(auto, using(crate::specs::Coloured::colour_refused, crate::specs::Coloured::colour_judged, crate::specs::Coloured::colour_same))]
+fn read_colour(retired: bool, s: &[u8]) -> Result<Request, Refusal>
     requires { (8 ≤ length s.now) × (retired ≡ is_retired (byte 2 s.now)) }
-    ensures { said result ≡ read_coloured s.now }
+    ensures { said_of said_request result ≡ read_coloured s.now }
 {
     let end = s.len() - 1;
-    let told = colour::read(s[5], &s[command::COLOUR_DATA_AT..end]);
-    match told {
-        colour::Reading::Refused(k) => Reading::Refused(k),
-        colour::Reading::Accepted(colour) => read_coloured(colour, retired, s),
-    }
+    let colour = colour::read(s[5], &s[command::COLOUR_DATA_AT..end])?;
+    read_coloured(colour, retired, s)
 }
 
 // What a datagram says as a request: the lowest refusal that applies, or a full reading, marked where its command is retired.
-pub fn read(s: &[u8]) -> Reading
-    ensures { said result ≡ read_request s.now }
+#[tactic(auto, using(command::specs::Known::shape_told), unfolding(crate::specs::Reading::read_request))]
+pub fn read(s: &[u8]) -> Result<Request, Refusal>
+    ensures { said_of said_request result ≡ read_request s.now }
 {
     if s.len() < command::BASIC_BYTES {
-        return Reading::Refused(1);
+        return Err(Refusal::TooShort);
     }
     if s[0] != lead::REQUEST {
-        return Reading::Refused(2);
+        return Err(Refusal::BadLead);
     }
-    let c = command::decide(s[2]);
-    let retired = c.1;
-    let shape = c.0;
+    let Command(shape, retired) = command::decide(s[2]);
     match shape {
-        Shape::Unknown => Reading::Refused(3),
+        Shape::Unknown => Err(Refusal::UnknownCommand),
         Shape::Basic(rule) => read_basic(rule, retired, s),
         Shape::Unicast => read_unicast(retired, s),
         Shape::Colour => read_colour(retired, s),

@@ -8,11 +8,11 @@ ghost use Rattle.frame.specs.Written.{Written};
 ghost use Rattle.colour.specs.Colour.{said_colour};
 ghost use Rattle.request.specs.Writing.{basic_frame, unicast_frame, colour_frame};
 
-use colour::Colour;
-use command::Shape;
-use frame::Wrote;
+use colour::{Colour, Data};
+use command::{Command, Shape};
 use meaning::Arguments;
 use profile::Profile;
+use refusal::Refusal;
 use request::Ipv4;
 use target::LineTarget;
 
@@ -24,44 +24,41 @@ pub fn basic(
     command: u8,
     arguments: Arguments,
     out: &mut [u8],
-) -> Wrote
+) -> Result<usize, Refusal>
     ensures { Written (basic_frame profile sequence command arguments) out.old result out.new }
 {
-    let decided = command::decide(command);
-    let shape = decided.0;
-    match shape {
-        Shape::Basic(rule) => {
-            if decided.1 {
-                return Wrote::Refused(17);
-            }
-            let a = arguments.a;
-            let b = arguments.b;
-            let c = arguments.c;
-            let d = arguments.d;
-            if !ranges::fits(rule, a, b, c, d) {
-                return Wrote::Refused(7);
-            }
-            if !profile::allows(profile, command) {
-                return Wrote::Refused(13);
-            }
-            let head = [lead::REQUEST, sequence, command, a, b, c, d];
-            frame::write(&head, b"", out)
-        }
-        Shape::Unknown => Wrote::Refused(3),
-        Shape::Unicast => Wrote::Refused(3),
-        Shape::Colour => Wrote::Refused(3),
+    let Command(shape, retired) = command::decide(command);
+    let Shape::Basic(rule) = shape else {
+        return Err(Refusal::UnknownCommand);
+    };
+    if retired {
+        return Err(Refusal::Retired);
     }
+    let Arguments { a, b, c, d } = arguments;
+    if !ranges::fits(rule, a, b, c, d) {
+        return Err(Refusal::BadArgument);
+    }
+    if !profile::allows(profile, command) {
+        return Err(Refusal::OutsideProfile);
+    }
+    let head = [lead::REQUEST, sequence, command, a, b, c, d];
+    frame::write(&head, b"", out)
 }
 
 // Writes request 40 under a profile, for any port and address: 13 under the quiet one, 8 where the buffer is too short.
-pub fn unicast(profile: Profile, sequence: u8, port: u16, address: Ipv4, out: &mut [u8]) -> Wrote
+pub fn unicast(
+    profile: Profile,
+    sequence: u8,
+    port: u16,
+    address: Ipv4,
+    out: &mut [u8],
+) -> Result<usize, Refusal>
     ensures { Written (unicast_frame profile sequence port address) out.old result out.new }
 {
     if !profile::allows(profile, command::UNICAST_COMMAND) {
-        return Wrote::Refused(13);
+        return Err(Refusal::OutsideProfile);
     }
-    let high = (port / 256 % 256) as u8;
-    let low = (port % 256) as u8;
+    let [high, low] = port.to_be_bytes();
     let head = [
         lead::REQUEST,
         sequence,
@@ -86,26 +83,24 @@ pub fn colour(
     level: u8,
     colour: Colour,
     out: &mut [u8],
-) -> Wrote
+) -> Result<usize, Refusal>
     ensures { Written (colour_frame profile sequence target level (said_colour colour)) out.old result out.new }
 {
     let address = target.0;
     if !target::is_lighting(address) {
-        return Wrote::Refused(7);
+        return Err(Refusal::BadArgument);
     }
     if !profile::allows(profile, command::COLOUR_COMMAND) {
-        return Wrote::Refused(13);
+        return Err(Refusal::OutsideProfile);
     }
-    let laid = colour::data_of(colour);
+    let Data { kind, count, bytes } = colour::data_of(colour);
     let head = [
         lead::REQUEST,
         sequence,
         command::COLOUR_COMMAND,
         address,
         level,
-        laid.kind,
+        kind,
     ];
-    let n = laid.count;
-    let bytes = laid.bytes;
-    frame::write(&head, &bytes[..n], out)
+    frame::write(&head, &bytes[..count], out)
 }

@@ -1,8 +1,7 @@
 -- Whose events count, and that for each of the three types the seasons' counts add up to the corridor's.
-use Rattle.std.specs.Prelude.{ℕ, zero, suc, ◌+◌, ◌<◌, ◌≡◌, refl, Bool, true, false, ◌&&◌, List, [], ◌∷◌, eqb}
+use Rattle.std.specs.Prelude.{ℕ, zero, suc, ◌+◌, ◌<◌, ◌≡◌, refl, Bool, true, false, ◌&&◌, List, [], ◌∷◌, eqb, Option, Some, None}
 use Rattle.std.proofs.Common.{ap, eqb-true, eq-eqb, arith}
 use Rattle.refusal.specs.Test.{pick, clash, both_left, both_right}
-use Rattle.event_type.specs.Types.{Carried, carried, none}
 use Rattle.event.specs.declared.Mac.{Mac}
 use Rattle.event.specs.Reading.{Told}
 use Rattle.record.specs.Record.{Entry}
@@ -17,7 +16,7 @@ use Rattle.seasons.specs.Seasons.{is_type, is_in, how_many}
 pub record Is (c : Corridor) (e : Told) : Type 0 where
   pub mac : c.mac ≡ e.mac
   pub target : c.target ≡ e.target
-  pub instance : carried c.instance ≡ e.instance
+  pub instance : Some c.instance ≡ e.instance
 
 -- the last of some tests, that two numbers are the same, and the tests before it
 last_same : (t : Bool) (x y : ℕ) → t && eqb x y ≡ true → (t ≡ true) × (x ≡ y)
@@ -37,9 +36,9 @@ mac_is m k h =
     let e₀ = eqb-true m.0 k.0 e₁.0 in
     λ i. record { 0 = e₀ i; 1 = e₁.1 i; 2 = e₂.1 i; 3 = e₃.1 i; 4 = e₄.1 i; 5 = e₅.1 i }
 
-instance_is_lem : (i : ℕ) (x : Carried) → is_instance i x ≡ true → carried i ≡ x
-instance_is_lem i (carried j) h = ap carried (eqb-true i j h)
-instance_is_lem i none h = clash (cc)
+instance_is_lem : (i : ℕ) (x : Option ℕ) → is_instance i x ≡ true → Some i ≡ x
+instance_is_lem i (Some j) h = ap Some (eqb-true i j h)
+instance_is_lem i None h = clash (cc)
 
 pub of_is : (c : Corridor) (e : Told) → is_of c e ≡ true → Is c e
 unfolding is_of

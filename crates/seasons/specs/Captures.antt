@@ -1,13 +1,11 @@
 -- What a report says of a capture that a buffer of bytes holds: its seasons are document 02's, their counts add up to the corridor's, and no
 -- number is too great for its 64 bits.
-use Rattle.std.specs.Prelude.{ℕ, ◌+◌, ◌-◌, ◌*◌, ◌≤◌, ◌<◌, ◌≡◌, refl, Bool, true, false, List, [], ◌∷◌, length, get_or}
+use Rattle.std.specs.Prelude.{ℕ, ◌+◌, ◌-◌, ◌*◌, ◌≤◌, ◌<◌, ◌≡◌, refl, Bool, true, false, List, [], ◌∷◌, length, get_or, Option, Some, None}
 use Rattle.std.proofs.Common.{sym, ap, ◌∙◌, leb-true, arith}
 use Rattle.refusal.specs.Test.{pick, clash}
 use Rattle.refusal.specs.Answer.{Answer, refused, full, demand, demand_elim, full_one}
 use Rattle.sum.specs.Bytes.{Bytes}
 use Rattle.record.specs.Record.{Entry}
-use Rattle.summary.specs.declared.Seconds.{Seconds}
-use Rattle.summary.specs.declared.Seconds.TheVariants.{Absent, At}
 use Rattle.summary.specs.Summary.{not_before}
 use Rattle.capture.specs.declared.Mark.{Mark}
 use Rattle.capture.specs.Capture.{sizes_of, opened}
@@ -25,26 +23,26 @@ use Rattle.seasons.specs.Gaps.{Rising, end_of, total_most, gaps_number, times_co
 use Rattle.report.specs.Report.{on_opened, reported}
 
 -- THE TIMES OF GOOD RECORDS do not fall, and have 32 bits: so it is with the occupied events among them
-occupied_rise : (w : ℕ) (c : Corridor) (low : ℕ) (last : Seconds) (rs : List Entry) → ((s : ℕ) → not_before last s ≡ true → low ≤ s) → Good w last rs
+occupied_rise : (w : ℕ) (c : Corridor) (low : ℕ) (last : Option ℕ) (rs : List Entry) → ((s : ℕ) → not_before last s ≡ true → low ≤ s) → Good w last rs
     → Rising low (occupied_at c rs)
 unfolding occupied_at
 occupied_rise w c low last [] h g = tt
 occupied_rise w c low last (r ∷ rs) h g =
     let l : low ≤ r.seconds = h r.seconds g.0.later in
     go (is_type c type_occupied r) l
-    (occupied_rise w c r.seconds (At r.seconds) rs (λ s e. leb-true r.seconds s e) g.1)
-    (occupied_rise w c low (At r.seconds) rs (λ s e. omega (arith, l, leb-true r.seconds s e)) g.1)
+    (occupied_rise w c r.seconds (Some r.seconds) rs (λ s e. leb-true r.seconds s e) g.1)
+    (occupied_rise w c low (Some r.seconds) rs (λ s e. omega (arith, l, leb-true r.seconds s e)) g.1)
   where
     go : (t : Bool) → low ≤ r.seconds → Rising r.seconds (occupied_at c rs) → Rising low (occupied_at c rs)
         → Rising low (pick t (r.seconds ∷ occupied_at c rs) (occupied_at c rs))
     go true l p q = (l, p)
     go false l p q = q
 
-occupied_end : (w : ℕ) (c : Corridor) (low : ℕ) (last : Seconds) (rs : List Entry) → low < 4294967296 → Good w last rs → end_of low (occupied_at c rs) < 4294967296
+occupied_end : (w : ℕ) (c : Corridor) (low : ℕ) (last : Option ℕ) (rs : List Entry) → low < 4294967296 → Good w last rs → end_of low (occupied_at c rs) < 4294967296
 unfolding occupied_at
 occupied_end w c low last [] h g = h
 occupied_end w c low last (r ∷ rs) h g =
-    go (is_type c type_occupied r) (occupied_end w c r.seconds (At r.seconds) rs g.0.short g.1) (occupied_end w c low (At r.seconds) rs h g.1)
+    go (is_type c type_occupied r) (occupied_end w c r.seconds (Some r.seconds) rs g.0.short g.1) (occupied_end w c low (Some r.seconds) rs h g.1)
   where
     go : (t : Bool) → end_of r.seconds (occupied_at c rs) < 4294967296 → end_of low (occupied_at c rs) < 4294967296
         → end_of low (pick t (r.seconds ∷ occupied_at c rs) (occupied_at c rs)) < 4294967296
@@ -91,10 +89,10 @@ module _ (b : List ℕ) (u : ℕ) (c : Corridor) (bounds : Boundaries) {ss : Lis
   few = omega (arith, records_few rs, whole_used whole)
 
   rise : Rising 0 (occupied_at c rs)
-  rise = occupied_rise (width_in b) c 0 Absent rs (λ s h. omega arith) whole.good
+  rise = occupied_rise (width_in b) c 0 None rs (λ s h. omega arith) whole.good
 
   below : (n : ℕ) → total_of (gaps_in bounds n (occupied_at c rs)) < 4294967296
-  below n = total_below bounds n (occupied_at c rs) rise (occupied_end (width_in b) c 0 Absent rs (omega arith) whole.good)
+  below n = total_below bounds n (occupied_at c rs) rise (occupied_end (width_in b) c 0 None rs (omega arith) whole.good)
 
   -- EACH SEASON IS DOCUMENT 02'S, in numbers without end: no sum was too great for its 64 bits
   pub report_is : (n : ℕ) → get_or ss n no_events ≡ season_is c bounds (records_of b u) n
@@ -139,20 +137,20 @@ module _ (b : List ℕ) (u : ℕ) (c : Corridor) (bounds : Boundaries) {ss : Lis
       let o = ap (λ (s : Season). s.occupied) (report_is n) in
       omega (arith, g, o, gaps_number bounds n (occupied_at c rs) rise, times_counted c bounds n rs)
 
-  longest_none : (gs : List ℕ) → length gs ≡ 0 → longest_of gs ≡ Absent
+  longest_none : (gs : List ℕ) → length gs ≡ 0 → longest_of gs ≡ None
   longest_none [] h = refl
   longest_none (g ∷ gs) h = absurd (omega arith)
 
-  none_longest : (gs : List ℕ) → longest_of gs ≡ Absent → length gs ≡ 0
+  none_longest : (gs : List ℕ) → longest_of gs ≡ None → length gs ≡ 0
   none_longest [] h = refl
   none_longest (g ∷ gs) h = clash (cc)
 
-  pub few_absent : (n : ℕ) → (get_or ss n no_events).occupied < 2 → (get_or ss n no_events).longest ≡ Absent
+  pub few_absent : (n : ℕ) → (get_or ss n no_events).occupied < 2 → (get_or ss n no_events).longest ≡ None
   few_absent n h =
       ap (λ (s : Season). s.longest) (report_is n)
       ∙ longest_none (gaps_in bounds n (occupied_at c rs)) (omega (arith, ap (λ (s : Season). s.gaps) (report_is n), gaps_between n))
 
-  pub absent_few : (n : ℕ) → (get_or ss n no_events).longest ≡ Absent → (get_or ss n no_events).occupied < 2
+  pub absent_few : (n : ℕ) → (get_or ss n no_events).longest ≡ None → (get_or ss n no_events).occupied < 2
   absent_few n h =
       omega
       (arith, none_longest (gaps_in bounds n (occupied_at c rs)) (sym (ap (λ (s : Season). s.longest) (report_is n)) ∙ h), ap (λ (s : Season). s.gaps) (report_is n), gaps_between n)

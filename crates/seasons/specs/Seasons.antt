@@ -1,11 +1,11 @@
 -- The seasons of some records as document 02 words them, each at once and in numbers without end; and that the tally, record by record, gives
 -- them, as long as they fit into 64 bits.
 use Prim.Native.Nat.{ℕ, zero, suc, ◌+◌, ◌-◌, ◌≤◌}
-use Rattle.std.specs.Prelude.{◌≡◌, ◌&&◌, length, get_or, leb}
+use Rattle.std.specs.Prelude.{◌≡◌, ◌&&◌, length, get_or, leb, Option, Some, None}
 use Rattle.std.proofs.Math.Path.{refl, ap}
 use Rattle.std.proofs.Common.{sym, ◌∙◌, get_or-set_same, get_or-set_other, eqb-true}
 use Rattle.std.proofs.Math.Bool.{Bool, true, false}
-use mathlib.Core.List.{List, [], ◌∷◌, ◌++◌}
+use mathlib.Core.List.{List, [], ◌∷◌}
 use Rattle.std.proofs.Math.ListN.{length-set}
 use Rattle.std.proofs.Math.Dec.{eqb}
 use Rattle.std.proofs.lemmas.Bool.{eqb-false}
@@ -13,8 +13,6 @@ use native.Mathlib.Omega.{arith}
 use Rattle.refusal.specs.Test.{pick, clash}
 use Rattle.record.specs.Record.{Entry}
 use Rattle.summary.specs.Summary.{type_of}
-use Rattle.summary.specs.declared.Seconds.{Seconds}
-use Rattle.summary.specs.declared.Seconds.TheVariants.{Absent, At}
 use Rattle.season.specs.declared.Corridor.{Corridor}
 use Rattle.season.specs.declared.Boundaries.{Boundaries}
 use Rattle.season.specs.declared.Season.{Season}
@@ -76,9 +74,9 @@ unfoldable pub greatest : ℕ → List ℕ → ℕ
 greatest l [] = l
 greatest l (g ∷ gs) = greatest (pick (leb l g) g l) gs
 
-abbrev pub longest_of : List ℕ → Seconds
-longest_of [] = Absent
-longest_of (g ∷ gs) = At (greatest g gs)
+abbrev pub longest_of : List ℕ → Option ℕ
+longest_of [] = None
+longest_of (g ∷ gs) = Some (greatest g gs)
 
 -- SEASON n of some records
 abbrev pub season_is : Corridor → Boundaries → List Entry → ℕ → Season
@@ -139,7 +137,7 @@ module _ (c : Corridor) (b : Boundaries) where
   unfolding with_event
   count_step k n x r h = ap (count_of k) (season_step n x r h) ∙ go k (is_of c r.event) (eqb (season_of b r.seconds) n)
     where
-      gap : Seconds
+      gap : Option ℕ
       gap = gap_by b x.last r.seconds (type_of r)
 
       go : (k : Counted) (t e : Bool) → count_of k (pick (t && e) (with_event (at n x) (type_of r) gap) (at n x))
@@ -174,82 +172,82 @@ module _ (c : Corridor) (b : Boundaries) where
       go false e l again = again (omega arith) ∙ omega arith
 
   -- GAPS. The gap that a record ends in season n, where the last occupied event was this one
-  abbrev gap_of : ℕ → Seconds → Entry → Seconds
-  gap_of n last r = pick (lies n r) (gap_by b last r.seconds (type_of r)) Absent
+  abbrev gap_of : ℕ → Option ℕ → Entry → Option ℕ
+  gap_of n last r = pick (lies n r) (gap_by b last r.seconds (type_of r)) None
 
   -- some gaps onto what a season holds of them
-  unfoldable onto : {H : Type 0} → (H → Seconds → H) → H → List ℕ → H
+  unfoldable onto : {H : Type 0} → (H → Option ℕ → H) → H → List ℕ → H
   onto f v [] = v
-  onto f v (g ∷ gs) = onto f (f v (At g)) gs
+  onto f v (g ∷ gs) = onto f (f v (Some g)) gs
 
   -- those of some occupied events behind the last one
-  abbrev since : ℕ → Seconds → List ℕ → List ℕ
-  since n Absent ts = gaps_in b n ts
-  since n (At t) ts = gaps_behind b n t ts
+  abbrev since : ℕ → Option ℕ → List ℕ → List ℕ
+  since n None ts = gaps_in b n ts
+  since n (Some t) ts = gaps_behind b n t ts
 
-  last_step : (x : Tally) (r : Entry) → (with x r).last ≡ pick (is_type c type_occupied r) (At r.seconds) x.last
+  last_step : (x : Tally) (r : Entry) → (with x r).last ≡ pick (is_type c type_occupied r) (Some r.seconds) x.last
   unfolding one_more noted
   last_step x r = go (is_of c r.event)
     where
-      go : (t : Bool) → (pick t (noted b x r.seconds (type_of r)) x).last ≡ pick (t && eqb (type_of r) type_occupied) (At r.seconds) x.last
+      go : (t : Bool) → (pick t (noted b x r.seconds (type_of r)) x).last ≡ pick (t && eqb (type_of r) type_occupied) (Some r.seconds) x.last
       go true = refl
       go false = refl
 
   -- no gap where the record is no occupied event
-  no_gap : (n : ℕ) (last : Seconds) (r : Entry) → is_type c type_occupied r ≡ false → gap_of n last r ≡ Absent
+  no_gap : (n : ℕ) (last : Option ℕ) (r : Entry) → is_type c type_occupied r ≡ false → gap_of n last r ≡ None
   no_gap n last r h = go (is_of c r.event) (eqb (type_of r) type_occupied) (eqb (season_of b r.seconds) n) h
     where
-      go : (t k e : Bool) → t && k ≡ false → pick (t && e) (pick k (gap_to b last r.seconds) Absent) Absent ≡ Absent
+      go : (t k e : Bool) → t && k ≡ false → pick (t && e) (pick k (gap_to b last r.seconds) None) None ≡ None
       go false k e h = refl
       go true false true h = refl
       go true false false h = refl
       go true true e h = clash (cc)
 
   -- and where it is one, the gap from the last where both lie in the season
-  first_gap : (n : ℕ) (r : Entry) → gap_of n Absent r ≡ Absent
+  first_gap : (n : ℕ) (r : Entry) → gap_of n None r ≡ None
   first_gap n r = go (lies n r) (eqb (type_of r) type_occupied)
     where
-      go : (e k : Bool) → pick e (pick k Absent Absent) Absent ≡ Absent
+      go : (e k : Bool) → ◌≡◌ {A = Option ℕ} (pick e (pick k None None) None) None
       go false k = refl
       go true true = refl
       go true false = refl
 
   next_gap : (n l : ℕ) (r : Entry) → is_type c type_occupied r ≡ true
-      → gap_of n (At l) r ≡ pick (eqb (season_of b l) n && eqb (season_of b r.seconds) n) (At (r.seconds - l)) Absent
+      → gap_of n (Some l) r ≡ pick (eqb (season_of b l) n && eqb (season_of b r.seconds) n) (Some (r.seconds - l)) None
   unfolding gap_between
   next_gap n l r h = go (is_of c r.event) (eqb (type_of r) type_occupied) (eqb (season_of b r.seconds) n) refl h
     where
       m : ℕ
       m = season_of b r.seconds
 
-      g : Seconds
-      g = At (r.seconds - l)
+      g : Option ℕ
+      g = Some (r.seconds - l)
 
-      none : (e : Bool) → Absent ≡ pick (e && false) g Absent
+      none : (e : Bool) → None ≡ pick (e && false) g None
       none true = refl
       none false = refl
 
-      some : (e : Bool) → pick e g Absent ≡ pick (e && true) g Absent
+      some : (e : Bool) → pick e g None ≡ pick (e && true) g None
       some true = refl
       some false = refl
 
       go : (t k e : Bool) → eqb m n ≡ e → t && k ≡ true
-          → pick (t && e) (pick k (pick (eqb (season_of b l) m) g Absent) Absent) Absent ≡ pick (eqb (season_of b l) n && e) g Absent
+          → pick (t && e) (pick k (pick (eqb (season_of b l) m) g None) None) None ≡ pick (eqb (season_of b l) n && e) g None
       go false k e q h = clash (cc)
       go true false e q h = clash (cc)
       go true true false q h = none (eqb (season_of b l) n)
       go true true true q h = let z : m ≡ n = eqb-true m n q in rw z (some (eqb (season_of b l) n))
 
   -- WHAT A SEASON HOLDS OF GAPS: a value that each gap changes by f. By one record, and by all that are left
-  module _ {H : Type 0} (f : H → Seconds → H) (val : Season → H) (n : ℕ) (none : (v : H) → f v Absent ≡ v)
-      (by : (s : Season) (k : ℕ) (g : Seconds) → val (with_event s k g) ≡ f (val s) g) where
+  module _ {H : Type 0} (f : H → Option ℕ → H) (val : Season → H) (n : ℕ) (none : (v : H) → f v None ≡ v)
+      (by : (s : Season) (k : ℕ) (g : Option ℕ) → val (with_event s k g) ≡ f (val s) g) where
     gap_step : (x : Tally) (r : Entry) → Four x → val (at n (with x r)) ≡ f (val (at n x)) (gap_of n x.last r)
     gap_step x r h = ap val (season_step n x r h) ∙ go (lies n r)
       where
-        g : Seconds
+        g : Option ℕ
         g = gap_by b x.last r.seconds (type_of r)
 
-        go : (t : Bool) → val (pick t (with_event (at n x) (type_of r) g) (at n x)) ≡ f (val (at n x)) (pick t g Absent)
+        go : (t : Bool) → val (pick t (with_event (at n x) (type_of r) g) (at n x)) ≡ f (val (at n x)) (pick t g None)
         go true = by (at n x) (type_of r) g
         go false = sym (none (val (at n x)))
 
@@ -271,30 +269,30 @@ module _ (c : Corridor) (b : Boundaries) where
         v : H
         v = val (at n x)
 
-        onwards : {l : Seconds} {w : H} → y.last ≡ l → val (at n y) ≡ w → val (at n (tallied c b y rs)) ≡ onto f w (since n l ts)
-        onwards {l} {w} p q = again ∙ ap (λ (z : H). onto f z (since n y.last ts)) q ∙ ap (λ (z : Seconds). onto f w (since n z ts)) p
+        onwards : {l : Option ℕ} {w : H} → y.last ≡ l → val (at n y) ≡ w → val (at n (tallied c b y rs)) ≡ onto f w (since n l ts)
+        onwards {l} {w} p q = again ∙ ap (λ (z : H). onto f z (since n y.last ts)) q ∙ ap (λ (z : Option ℕ). onto f w (since n z ts)) p
 
-        ends : (e : Bool) (g : ℕ) → y.last ≡ At t → val (at n y) ≡ f v (pick e (At g) Absent)
+        ends : (e : Bool) (g : ℕ) → y.last ≡ Some t → val (at n y) ≡ f v (pick e (Some g) None)
             → val (at n (tallied c b y rs)) ≡ onto f v (pick e (g ∷ gaps_behind b n t ts) (gaps_behind b n t ts))
         ends true g p q = onwards p q
         ends false g p q = onwards p (q ∙ none v)
 
-        go : (i : Bool) → is_type c type_occupied r ≡ i → (l : Seconds) → x.last ≡ l
+        go : (i : Bool) → is_type c type_occupied r ≡ i → (l : Option ℕ) → x.last ≡ l
             → val (at n (tallied c b y rs)) ≡ onto f v (since n l (pick i (t ∷ ts) ts))
         go false e l p = onwards {l = l} (last_step x r ∙ rw e p) (gap_step x r h ∙ ap (f v) (no_gap n x.last r e) ∙ none v)
-        go true e Absent p =
-            onwards {l = At t} (last_step x r ∙ rw e) (gap_step x r h ∙ ap (λ (l : Seconds). f v (gap_of n l r)) p ∙ ap (f v) (first_gap n r) ∙ none v)
-        go true e (At l) p =
+        go true e None p =
+            onwards {l = Some t} (last_step x r ∙ rw e) (gap_step x r h ∙ ap (λ (l : Option ℕ). f v (gap_of n l r)) p ∙ ap (f v) (first_gap n r) ∙ none v)
+        go true e (Some l) p =
             ends (eqb (season_of b l) n && eqb (season_of b t) n) (t - l) (last_step x r ∙ rw e)
-            (gap_step x r h ∙ ap (λ (l : Seconds). f v (gap_of n l r)) p ∙ ap (f v) (next_gap n l r e))
+            (gap_step x r h ∙ ap (λ (l : Option ℕ). f v (gap_of n l r)) p ∙ ap (f v) (next_gap n l r e))
 
     gaps_are : (x : Tally) (rs : List Entry) → Four x → val (at n (tallied c b x rs)) ≡ onto f (val (at n x)) (since n x.last (occupied_at c rs))
     unfolding tallied occupied_at onto gaps_behind
     gaps_are x [] h = go x.last
       where
-        go : (l : Seconds) → val (at n x) ≡ onto f (val (at n x)) (since n l [])
-        go Absent = refl
-        go (At t) = refl
+        go : (l : Option ℕ) → val (at n x) ≡ onto f (val (at n x)) (since n l [])
+        go None = refl
+        go (Some t) = refl
     gaps_are x (r ∷ rs) h = gaps_next x r rs h (gaps_are (with x r) rs (four_stay x r h))
 
   -- total, number and longest of some gaps, one by one
@@ -312,12 +310,12 @@ module _ (c : Corridor) (b : Boundaries) where
       let e : v + 1 ≡ plus v 1 = plus_in v 1 (omega arith) in
       onto_number (plus v 1) gs (omega arith) ∙ omega arith
 
-  onto_longer : (l : ℕ) (gs : List ℕ) → onto longer (At l) gs ≡ At (greatest l gs)
+  onto_longer : (l : ℕ) (gs : List ℕ) → onto longer (Some l) gs ≡ Some (greatest l gs)
   unfolding onto greatest
   onto_longer l [] = refl
   onto_longer l (g ∷ gs) = onto_longer (pick (leb l g) g l) gs
 
-  onto_longest : (gs : List ℕ) → onto longer Absent gs ≡ longest_of gs
+  onto_longest : (gs : List ℕ) → onto longer None gs ≡ longest_of gs
   unfolding onto
   onto_longest [] = refl
   onto_longest (g ∷ gs) = onto_longer g gs

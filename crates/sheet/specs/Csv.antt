@@ -1,9 +1,7 @@
 -- docs/SHEET.md, "CSV": "Lines end in a line feed. The header, then one row for each season".
-use Rattle.std.specs.Prelude.{ℕ, ◌+◌, List, [], ◌∷◌, ◌++◌, get_or}
+use Rattle.std.specs.Prelude.{ℕ, ◌+◌, List, [], ◌∷◌, ◌++◌, get_or, Option, Some, None}
 use Rattle.words.specs.Words.{text}
 use Rattle.text.specs.Text.{decimal_of}
-use Rattle.summary.specs.declared.Seconds.{Seconds}
-use Rattle.summary.specs.declared.Seconds.TheVariants.{Absent, At}
 use Rattle.season.specs.declared.Boundaries.{Boundaries}
 use Rattle.season.specs.declared.Season.{Season}
 use Rattle.season.specs.Season.{no_events}
@@ -19,9 +17,9 @@ header_text = text "season,from,to,occupied,presses,holds,longest gap,total,gaps
 abbrev pub number_field : ℕ → List (List ℕ)
 number_field n = text "," ∷ decimal_of n ∷ []
 
-abbrev pub seconds_field : Seconds → List (List ℕ)
-seconds_field Absent = text "," ∷ []
-seconds_field (At t) = text "," ∷ decimal_of t ∷ []
+abbrev pub seconds_field : Option ℕ → List (List ℕ)
+seconds_field None = text "," ∷ []
+seconds_field (Some t) = text "," ∷ decimal_of t ∷ []
 
 -- the row of a season, its place g from 0: its number and its boundaries, its counts, its gaps
 abbrev pub when_texts : Boundaries → ℕ → List (List ℕ)

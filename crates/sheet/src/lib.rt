@@ -7,7 +7,6 @@ ghost use Rattle.lent.specs.All.{PutsAll};
 ghost use Rattle.sheet.specs.Csv.{number_field, seconds_field, when_texts, count_texts, gap_texts, row_texts, csv_texts};
 
 use season::{Boundaries, Season};
-use summary::Seconds;
 
 // A number behind a comma.
 fn number(out: &mut [u8], at: usize, n: u64) -> usize
@@ -18,12 +17,12 @@ fn number(out: &mut [u8], at: usize, n: u64) -> usize
 }
 
 // Seconds behind a comma: nothing behind it where they are absent.
-fn seconds(out: &mut [u8], at: usize, t: Seconds) -> usize
+fn seconds(out: &mut [u8], at: usize, t: Option<u32>) -> usize
     ensures { PutsAll (seconds_field t) out.old at result out.new }
 {
     match t {
-        Seconds::Absent => lent::byte(out, at, b','),
-        Seconds::At(s) => number(out, at, s as u64),
+        None => lent::byte(out, at, b','),
+        Some(s) => number(out, at, s as u64),
     }
 }
 
@@ -32,11 +31,9 @@ fn when(out: &mut [u8], at: usize, b: Boundaries, g: usize) -> usize
     requires { g < 4 }
     ensures { PutsAll (when_texts b g) out.old at result out.new }
 {
-    let from = figures::begins(b, g);
-    let to = figures::ends(b, g);
     let e = text::decimal(out, at, (g + 1) as u64);
-    let f = seconds(out, e, from);
-    seconds(out, f, to)
+    let f = seconds(out, e, figures::begins(b, g));
+    seconds(out, f, figures::ends(b, g))
 }
 
 // Its counts.
@@ -52,8 +49,7 @@ fn counts(out: &mut [u8], at: usize, s: Season) -> usize
 fn gaps(out: &mut [u8], at: usize, s: Season) -> usize
     ensures { PutsAll (gap_texts s) out.old at result out.new }
 {
-    let longest = s.longest;
-    let e = seconds(out, at, longest);
+    let e = seconds(out, at, s.longest);
     let f = number(out, e, s.total);
     number(out, f, s.gaps)
 }

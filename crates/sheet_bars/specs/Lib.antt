@@ -1,4 +1,2 @@
 -- what the contracts cite
 pub mod Bars
--- what only serves proofs
-pub mod Lengths

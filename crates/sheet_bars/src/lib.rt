@@ -11,14 +11,12 @@ ghost use Rattle.sheet_bars.specs.Bars.{bar_length, bar_texts, above_texts};
 const FLOOR: u64 = 310;
 
 // How many marks the bar of a count has, where most is the greatest.
+#[tactic(auto, using(figures::specs::Share::share_most))]
 pub fn length_of(n: u64, most: u64) -> usize
     ensures { (result ≡ bar_length n most) × (result ≤ 40) }
 {
     let k = figures::share(n, most, 40) as usize;
-    if n == 0 {
-        return k;
-    }
-    if 1 <= k { k } else { 1 }
+    if n == 0 { k } else { k.max(1) }
 }
 
 // A text, and a number behind it.

@@ -1,4 +1,2 @@
 -- what the contracts cite
 pub mod Picture
--- what only serves proofs
-pub mod Ways

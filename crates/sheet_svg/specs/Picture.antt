@@ -1,9 +1,7 @@
 -- docs/SHEET.md, `--svg`, line by line. "Lines end in a line feed": each line's last text has it.
-use Rattle.std.specs.Prelude.{ℕ, ◌+◌, ◌*◌, ◌/◌, List, [], ◌∷◌, ◌++◌, get_or}
+use Rattle.std.specs.Prelude.{ℕ, ◌+◌, ◌*◌, ◌/◌, List, [], ◌∷◌, ◌++◌, get_or, Option, Some, None}
 use Rattle.words.specs.Words.{text}
 use Rattle.text.specs.Text.{decimal_of}
-use Rattle.summary.specs.declared.Seconds.{Seconds}
-use Rattle.summary.specs.declared.Seconds.TheVariants.{Absent, At}
 use Rattle.season.specs.declared.Corridor.{Corridor}
 use Rattle.season.specs.declared.Boundaries.{Boundaries}
 use Rattle.season.specs.declared.Season.{Season}
@@ -34,7 +32,7 @@ most_in s = greatest_of s.occupied s.presses s.holds 0
 abbrev pub most_of : List Season → ℕ
 most_of ss = greatest_of (most_in (get_or ss 0 no_events)) (most_in (get_or ss 1 no_events)) (most_in (get_or ss 2 no_events)) (most_in (get_or ss 3 no_events))
 
-abbrev pub longest_of : List Season → Seconds
+abbrev pub longest_of : List Season → Option ℕ
 longest_of ss =
     longer (longer (get_or ss 0 no_events).longest (get_or ss 1 no_events).longest)
     (longer (get_or ss 2 no_events).longest (get_or ss 3 no_events).longest)
@@ -49,7 +47,7 @@ left_texts most =
     ∷ text "<text x=\"54\" y=\"314\" text-anchor=\"end\">0</text>\n"
     ∷ []
 
-abbrev pub right_texts : Seconds → List (List ℕ)
+abbrev pub right_texts : Option ℕ → List (List ℕ)
 right_texts longest =
     text "<text x=\"706\" y=\"74\">" ∷ span_or longest ∷ text "</text>\n"
     ∷ text "<text x=\"706\" y=\"314\">0</text>\n"
@@ -64,16 +62,16 @@ abbrev pub count_line : ℕ → ℕ → ℕ → List ℕ → List (List ℕ)
 count_line x n most colour = bar_line x (share_of n most 240) colour (decimal_of n ∷ [])
 
 -- of a longest gap: "among the longest gaps; 0 where it is absent", "its whole hours, rounded down, ` h` behind them, or `-` where it is absent"
-abbrev pub gap_height : Seconds → Seconds → ℕ
-gap_height Absent longest = 0
-gap_height (At g) Absent = 0
-gap_height (At g) (At l) = share_of g l 240
+abbrev pub gap_height : Option ℕ → Option ℕ → ℕ
+gap_height None longest = 0
+gap_height (Some g) None = 0
+gap_height (Some g) (Some l) = share_of g l 240
 
-abbrev pub hours_texts : Seconds → List (List ℕ)
-hours_texts Absent = text "-" ∷ []
-hours_texts (At g) = decimal_of (g / 3600) ∷ text " h" ∷ []
+abbrev pub hours_texts : Option ℕ → List (List ℕ)
+hours_texts None = text "-" ∷ []
+hours_texts (Some g) = decimal_of (g / 3600) ∷ text " h" ∷ []
 
-abbrev pub gap_line : ℕ → Seconds → Seconds → List (List ℕ)
+abbrev pub gap_line : ℕ → Option ℕ → Option ℕ → List (List ℕ)
 gap_line x gap longest = bar_line x (gap_height gap longest) (text "#7f7f7f") (hours_texts gap)
 
 -- A SEASON, its place g from 0. "x is 60 + 160 g + 12, + 46, + 80, + 114", "the colour that of its name above"
@@ -91,7 +89,7 @@ bars_texts m g s =
 abbrev pub name_line : ℕ → List (List ℕ)
 name_line g = text "<text x=\"" ∷ decimal_of (place_of g 77) ∷ text "\" y=\"328\" text-anchor=\"middle\">season " ∷ decimal_of (g + 1) ∷ text "</text>\n" ∷ []
 
-abbrev pub time_line : ℕ → List ℕ → Seconds → List (List ℕ)
+abbrev pub time_line : ℕ → List ℕ → Option ℕ → List (List ℕ)
 time_line g s t = text "<text x=\"" ∷ decimal_of (place_of g 77) ∷ s ∷ time_or t ∷ text "</text>\n" ∷ []
 
 abbrev pub season_texts : Boundaries → Scale → ℕ → Season → List (List ℕ)

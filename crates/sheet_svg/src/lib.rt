@@ -12,7 +12,6 @@ ghost use Rattle.sheet_svg.specs.Picture.{count_line, gap_height, hours_texts, g
 ghost use Rattle.sheet_svg.specs.Picture.{season_texts, four_texts, end_texts, picture_texts};
 
 use season::{Boundaries, Corridor, Season};
-use summary::Seconds;
 
 // How high the highest bar is.
 const HIGH: u8 = 240;
@@ -20,8 +19,8 @@ const HIGH: u8 = 240;
 // What the highest bars stand for: the greatest of the twelve counts, and the longest of the longest gaps.
 #[derive(Clone, Copy)]
 struct Scale {
-    pub most: u64,
-    pub longest: Seconds,
+    most: u64,
+    longest: Option<u32>,
 }
 
 // The picture's frame and its title.
@@ -88,18 +87,12 @@ fn most_of(seasons: [Season; tally::SEASONS]) -> u64
 }
 
 // The longest of the longest gaps, or none.
-fn longest_of(seasons: [Season; tally::SEASONS]) -> Seconds
+fn longest_of(seasons: [Season; tally::SEASONS]) -> Option<u32>
     ensures { result ≡ longest_of seasons }
 {
-    let a = seasons[0];
-    let b = seasons[1];
-    let c = seasons[2];
-    let d = seasons[3];
-    let first = a.longest;
-    let second = b.longest;
-    let third = c.longest;
-    let fourth = d.longest;
-    season::longer(season::longer(first, second), season::longer(third, fourth))
+    let a = season::longer(seasons[0].longest, seasons[1].longest);
+    let b = season::longer(seasons[2].longest, seasons[3].longest);
+    season::longer(a, b)
 }
 
 // What the highest bars stand for.
@@ -113,12 +106,12 @@ fn scale_of(seasons: [Season; tally::SEASONS]) -> Scale
 }
 
 // A span, or `-` where it is not there.
-fn span_or(out: &mut [u8], at: usize, t: Seconds) -> usize
+fn span_or(out: &mut [u8], at: usize, t: Option<u32>) -> usize
     ensures { Puts (span_or t) out.old at result out.new }
 {
     match t {
-        Seconds::Absent => lent::word(out, at, b"-"),
-        Seconds::At(s) => figures::put_span(out, at, s as u64),
+        None => lent::word(out, at, b"-"),
+        Some(s) => figures::put_span(out, at, s as u64),
     }
 }
 
@@ -146,7 +139,7 @@ fn left(out: &mut [u8], at: usize, most: u64) -> usize
 }
 
 // What the right axis says.
-fn right(out: &mut [u8], at: usize, longest: Seconds) -> usize
+fn right(out: &mut [u8], at: usize, longest: Option<u32>) -> usize
     ensures { PutsAll (right_texts longest) out.old at result out.new }
 {
     let a = lent::word(out, at, b"<text x=\"706\" y=\"74\">");
@@ -156,6 +149,7 @@ fn right(out: &mut [u8], at: usize, longest: Seconds) -> usize
 }
 
 // How high the bar of a count is.
+#[tactic(auto, using(figures::specs::Share::share_most))]
 fn height(n: u64, most: u64) -> u8
     ensures { result ≡ share_of n most 240 }
 {
@@ -163,15 +157,12 @@ fn height(n: u64, most: u64) -> u8
 }
 
 // How high the bar of a longest gap is.
-fn gap_height(gap: Seconds, longest: Seconds) -> u8
+fn gap_height(gap: Option<u32>, longest: Option<u32>) -> u8
     ensures { result ≡ gap_height gap longest }
 {
-    let Seconds::At(g) = gap else {
-        return 0;
-    };
-    match longest {
-        Seconds::Absent => 0,
-        Seconds::At(l) => height(g as u64, l as u64),
+    match (gap, longest) {
+        (Some(g), Some(l)) => height(g as u64, l as u64),
+        _ => 0,
     }
 }
 
@@ -187,12 +178,12 @@ fn count_line(out: &mut [u8], at: usize, x: u16, n: u64, most: u64, colour: &[u8
 }
 
 // The whole hours of a gap, or `-` where it is absent.
-fn hours(out: &mut [u8], at: usize, gap: Seconds) -> usize
+fn hours(out: &mut [u8], at: usize, gap: Option<u32>) -> usize
     ensures { PutsAll (hours_texts gap) out.old at result out.new }
 {
     match gap {
-        Seconds::Absent => lent::word(out, at, b"-"),
-        Seconds::At(g) => {
+        None => lent::word(out, at, b"-"),
+        Some(g) => {
             let a = text::decimal(out, at, g as u64 / 3600);
             lent::word(out, a, b" h")
         }
@@ -200,7 +191,7 @@ fn hours(out: &mut [u8], at: usize, gap: Seconds) -> usize
 }
 
 // The line of a longest gap.
-fn gap_line(out: &mut [u8], at: usize, x: u16, gap: Seconds, longest: Seconds) -> usize
+fn gap_line(out: &mut [u8], at: usize, x: u16, gap: Option<u32>, longest: Option<u32>) -> usize
     ensures { PutsAll (gap_line x gap longest) out.old at result out.new }
 {
     let h = gap_height(gap, longest);
@@ -221,12 +212,10 @@ fn place(g: u8, d: u8) -> u16
 fn bars(out: &mut [u8], at: usize, m: Scale, g: u8, s: Season) -> usize
     ensures { PutsAll (bars_texts m g s) out.old at result out.new }
 {
-    let gap = s.longest;
-    let longest = m.longest;
     let a = count_line(out, at, place(g, 12), s.occupied, m.most, b"#1f77b4");
     let b = count_line(out, a, place(g, 46), s.presses, m.most, b"#ff7f0e");
     let c = count_line(out, b, place(g, 80), s.holds, m.most, b"#2ca02c");
-    gap_line(out, c, place(g, 114), gap, longest)
+    gap_line(out, c, place(g, 114), s.longest, m.longest)
 }
 
 // A season's name.
@@ -244,7 +233,7 @@ fn name_line(out: &mut [u8], at: usize, g: u8) -> usize
 }
 
 // When it begins, or when it ends.
-fn time_line(out: &mut [u8], at: usize, g: u8, s: &[u8], t: Seconds) -> usize
+fn time_line(out: &mut [u8], at: usize, g: u8, s: &[u8], t: Option<u32>) -> usize
     ensures { PutsAll (time_line g s.now t) out.old at result out.new }
 {
     let a = sheet_bars::numbered(out, at, b"<text x=\"", place(g, 77) as u64);
@@ -314,11 +303,10 @@ pub fn picture(
     ensures { PutsAll (picture_texts who b seasons) out.old at result out.new }
 {
     let m = scale_of(seasons);
-    let longest = m.longest;
     let c = head(out, at, who);
     let d = legend(out, c);
     let e = left(out, d, m.most);
-    let f = right(out, e, longest);
+    let f = right(out, e, m.longest);
     let g = four(out, f, b, m, seasons);
     end(out, g)
 }

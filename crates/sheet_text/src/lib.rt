@@ -8,18 +8,14 @@ ghost use Rattle.text.specs.Text.{decimal_of};
 ghost use Rattle.lent.specs.Puts.{Puts};
 ghost use Rattle.lent.specs.All.{PutsAll};
 ghost use Rattle.figures.specs.Figures.{greater_of, span_text, span_or, time_or};
-ghost use Rattle.sheet_text.specs.Layout.{feed, right as rightIn, left as leftIn, bar as barOf};
+ghost use Rattle.sheet_text.specs.Layout.{feed, right as right_in, left as left_in, bar as bar_of};
 ghost use Rattle.sheet_text.specs.Page.{season_texts, counts_head, when_texts, count_texts, counts_row, counts_texts, gaps_head, mean_or, gaps_row, gaps_texts};
 ghost use Rattle.sheet_text.specs.Page.{bar_row, bar_rows, bars_of, bars_texts, page_texts};
 
 use season::{Boundaries, Corridor, Season};
-use summary::Seconds;
 
 // How wide a bar is. No column is wider.
 const WIDEST: usize = 40;
-
-// The most that a span takes.
-const SPAN: usize = 29;
 
 // So many times a byte.
 fn same(out: &mut [u8], at: usize, b: u8, n: usize) -> usize
@@ -35,13 +31,13 @@ fn gap(w: usize, n: usize) -> usize
     requires { w ≤ 40 }
     ensures { (result ≡ greater_of 1 (w - n)) × (result ≤ 40) }
 {
-    if n < w { w - n } else { 1 }
+    w.saturating_sub(n).max(1)
 }
 
 // A run of bytes, right in w.
 fn right(out: &mut [u8], at: usize, s: &[u8], w: usize) -> usize
     requires { w ≤ 40 }
-    ensures { PutsAll (rightIn w s.now) out.old at result out.new }
+    ensures { PutsAll (right_in w s.now) out.old at result out.new }
 {
     let e = same(out, at, b' ', gap(w, s.len()));
     lent::word(out, e, s)
@@ -50,7 +46,7 @@ fn right(out: &mut [u8], at: usize, s: &[u8], w: usize) -> usize
 // A number, right in w.
 fn number(out: &mut [u8], at: usize, n: u64, w: usize) -> usize
     requires { w ≤ 40 }
-    ensures { PutsAll (rightIn w (decimal_of n)) out.old at result out.new }
+    ensures { PutsAll (right_in w (decimal_of n)) out.old at result out.new }
 {
     let e = same(out, at, b' ', gap(w, text::places(n)));
     text::decimal(out, e, n)
@@ -58,26 +54,26 @@ fn number(out: &mut [u8], at: usize, n: u64, w: usize) -> usize
 
 // A span of seconds, right in 19. It is made aside first: its length tells the blanks.
 fn span(out: &mut [u8], at: usize, seconds: u64) -> usize
-    ensures { PutsAll (rightIn 19 (span_text seconds)) out.old at result out.new }
+    ensures { PutsAll (right_in 19 (span_text seconds)) out.old at result out.new }
 {
-    let mut aside = [0u8; SPAN];
+    let mut aside = [0u8; figures::SPAN];
     let n = figures::put_span(&mut aside, 0, seconds);
     right(out, at, &aside[..n], 19)
 }
 
 // The span of a longest gap, right in 19.
-fn longest(out: &mut [u8], at: usize, t: Seconds) -> usize
-    ensures { PutsAll (rightIn 19 (span_or t)) out.old at result out.new }
+fn longest(out: &mut [u8], at: usize, t: Option<u32>) -> usize
+    ensures { PutsAll (right_in 19 (span_or t)) out.old at result out.new }
 {
     match t {
-        Seconds::Absent => right(out, at, b"-", 19),
-        Seconds::At(s) => span(out, at, s as u64),
+        None => right(out, at, b"-", 19),
+        Some(s) => span(out, at, s as u64),
     }
 }
 
 // The span of a mean gap, right in 19.
 fn mean(out: &mut [u8], at: usize, s: Season) -> usize
-    ensures { PutsAll (rightIn 19 (mean_or s)) out.old at result out.new }
+    ensures { PutsAll (right_in 19 (mean_or s)) out.old at result out.new }
 {
     if s.gaps == 0 {
         return right(out, at, b"-", 19);
@@ -86,18 +82,18 @@ fn mean(out: &mut [u8], at: usize, s: Season) -> usize
 }
 
 // How many blanks stand behind a time that is left in 19.
-fn behind(t: Seconds) -> usize
+fn behind(t: Option<u32>) -> usize
     ensures { (result ≡ 19 - length (time_or t)) × (result ≤ 40) }
 {
     match t {
-        Seconds::Absent => 18,
-        Seconds::At(_) => 0,
+        None => 18,
+        Some(_) => 0,
     }
 }
 
 // A time behind two blanks, left in 19.
-fn time(out: &mut [u8], at: usize, t: Seconds) -> usize
-    ensures { PutsAll (text "  " ∷ leftIn 19 (time_or t)) out.old at result out.new }
+fn time(out: &mut [u8], at: usize, t: Option<u32>) -> usize
+    ensures { PutsAll (text "  " ∷ left_in 19 (time_or t)) out.old at result out.new }
 {
     let e = lent::word(out, at, b"  ");
     let f = figures::put_time(out, e, t);
@@ -118,11 +114,9 @@ fn when(out: &mut [u8], at: usize, b: Boundaries, g: usize) -> usize
     requires { g < 4 }
     ensures { PutsAll (when_texts b g) out.old at result out.new }
 {
-    let from = figures::begins(b, g);
-    let to = figures::ends(b, g);
     let e = season(out, at, g);
-    let f = time(out, e, from);
-    time(out, f, to)
+    let f = time(out, e, figures::begins(b, g));
+    time(out, f, figures::ends(b, g))
 }
 
 // Its three counts, and the end of the line.
@@ -172,9 +166,8 @@ fn gaps_row(out: &mut [u8], at: usize, g: usize, s: Season) -> usize
     requires { g < 4 }
     ensures { PutsAll (gaps_row g s) out.old at result out.new }
 {
-    let its = s.longest;
     let d = season(out, at, g);
-    let e = longest(out, d, its);
+    let e = longest(out, d, s.longest);
     let f = mean(out, e, s);
     let h = number(out, f, s.total, 21);
     let i = number(out, h, s.gaps, 11);
@@ -206,7 +199,7 @@ fn put_gaps(out: &mut [u8], at: usize, seasons: [Season; tally::SEASONS]) -> usi
 
 // A bar: its marks, and blanks behind them.
 fn bar(out: &mut [u8], at: usize, n: u64, most: u64) -> usize
-    ensures { PutsAll (barOf n most) out.old at result out.new }
+    ensures { PutsAll (bar_of n most) out.old at result out.new }
 {
     let k = sheet_bars::length_of(n, most);
     let e = same(out, at, b'#', k);

@@ -4,10 +4,12 @@
 #![tactic(auto)]
 
 ghost use Rattle.lent.specs.All.{PutsAll};
+ghost use Rattle.refusal.specs.Refusals.{number_of};
 ghost use Rattle.sheet_told.specs.Told.{place_texts, bad_texts, level_texts, reason_texts, refused_texts, read_texts};
 
 use by_parts::{SoFar, Stage};
 use passing::Passed;
+use refusal::Refusal;
 use season::Boundaries;
 
 // Which record, and where it begins.
@@ -57,35 +59,28 @@ fn level(out: &mut [u8], at: usize, b: Boundaries) -> usize
     text::decimal(out, g, b.third as u64)
 }
 
-// The refusal of a report, by its number.
-fn reason(out: &mut [u8], at: usize, x: SoFar, k: u8) -> usize
-    ensures { PutsAll (reason_texts x k) out.old at result out.new }
+// The refusal of a report: of any other its number.
+fn reason(out: &mut [u8], at: usize, x: SoFar, refusal: Refusal) -> usize
+    ensures { PutsAll (reason_texts x (number_of refusal)) out.old at result out.new }
 {
-    if k == 14 {
-        return lent::word(
+    match refusal {
+        Refusal::UnknownVersion => lent::word(
             out,
             at,
             b"14 UNKNOWN_VERSION: the first byte (byte 0) is neither 01 nor 02: no capture, or one of another version",
-        );
+        ),
+        Refusal::BadRecord => bad(out, at, x.stage, x.passed),
+        Refusal::NotRising => level(out, at, x.bounds),
+        _ => text::decimal(out, at, refusal.number() as u64),
     }
-    if k == 15 {
-        let stage = x.stage;
-        let passed = x.passed;
-        return bad(out, at, stage, passed);
-    }
-    if k == 20 {
-        let bounds = x.bounds;
-        return level(out, at, bounds);
-    }
-    text::decimal(out, at, k as u64)
 }
 
 // Puts the line that tells why there is no sheet.
-pub fn refused(out: &mut [u8], at: usize, x: SoFar, k: u8) -> usize
-    ensures { PutsAll (refused_texts x k) out.old at result out.new }
+pub fn refused(out: &mut [u8], at: usize, x: SoFar, refusal: Refusal) -> usize
+    ensures { PutsAll (refused_texts x (number_of refusal)) out.old at result out.new }
 {
     let e = lent::word(out, at, b"corridor: ");
-    let f = reason(out, e, x, k);
+    let f = reason(out, e, x, refusal);
     lent::byte(out, f, b'\n')
 }
 

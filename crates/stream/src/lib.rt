@@ -3,10 +3,10 @@
 // whatever rule is lawful (specs/Lawful.antt). Document 01, "Reading a line".
 #![tactic(auto)]
 
-// What a rule says of the bytes at a position: more are needed, or the item's number, its size, and the fewest bytes that
-// settle it.
-#[derive(Drop)]
-pub enum Step {
-    More,
-    Item(u8, usize, usize),
+// What a rule says of the bytes at a position, where they settle an item: its number, its size, and the fewest bytes that settle it.
+#[derive(Clone, Copy, Debug, PartialEq, Eq)]
+pub struct Step {
+    pub number: u8,
+    pub size: usize,
+    pub settled: usize,
 }

@@ -56,11 +56,9 @@ fn small(s: &[u8]) -> u8
 fn few(s: &[u8]) -> u8
     ensures { result ≡ sum_of s.now }
 {
-    let mut x: u8 = 0;
-    let mut i: usize = 0;
-    while i < s.len() {
-        x = x ^ s[i];
-        i += 1;
+    let mut x = 0;
+    for b in s {
+        x ^= b;
     }
     x
 }
@@ -141,14 +139,7 @@ fn half(s: &[u8], i: usize) -> u64
 fn number(a: u8, b: u8, c: u8, d: u8, e: u8, f: u8, g: u8, h: u8) -> u64
     ensures { result ≡ low (a ∷ b ∷ c ∷ d ∷ e ∷ f ∷ g ∷ h ∷ []) }
 {
-    (a as u64)
-        + 0x100 * (b as u64)
-        + 0x10000 * (c as u64)
-        + 0x1000000 * (d as u64)
-        + 0x100000000 * (e as u64)
-        + 0x10000000000 * (f as u64)
-        + 0x1000000000000 * (g as u64)
-        + 0x100000000000000 * (h as u64)
+    u64::from_le_bytes([a, b, c, d, e, f, g, h])
 }
 
 // The exclusive-or of the eight bytes of a number: the upper half upon the lower, three times.

@@ -3,4 +3,4 @@ pub mod Summary
 -- what is claimed of it
 pub mod OneMore
 -- what only serves proofs
-pub mod Went
+pub mod Counts

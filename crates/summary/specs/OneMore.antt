@@ -1,13 +1,11 @@
 -- The summary of some records with one more counted is the summary of all of them, where there are few enough.
-use Rattle.std.specs.Prelude.{ℕ, zero, suc, ◌+◌, ◌≤◌, ◌<◌, ◌≡◌, refl, Bool, true, false, List, [], ◌∷◌, ◌++◌, length, get_or, set, leb, eqb}
+use Rattle.std.specs.Prelude.{ℕ, Option, Some, None, zero, suc, ◌+◌, ◌≤◌, ◌<◌, ◌≡◌, refl, Bool, true, false, List, [], ◌∷◌, ◌++◌, length, get_or, set, leb, eqb}
 use Rattle.std.proofs.Common.{sym, ap, ◌∙◌, length-append, lt-ltb, le-ltb, leb-true, eq-eqb, ne_eqb, arith}
 use Rattle.refusal.specs.Test.{pick}
 use Rattle.refusal.specs.Answer.{refused, full}
 use Rattle.event_type.specs.Types.{last_named}
 use Rattle.record.specs.Record.{Entry}
 use Rattle.summary.specs.Summary.{first_in, last_from, slot_of, type_of, how_many, counts_from, counted_in, most, first_of, raised, one_more}
-use Rattle.summary.specs.declared.Seconds.{Seconds}
-use Rattle.summary.specs.declared.Seconds.TheVariants.{Absent, At}
 
 pub slot_small : (k : ℕ) → slot_of k < 11
 slot_small k = go (leb k last_named) refl
@@ -16,9 +14,9 @@ slot_small k = go (leb k last_named) refl
     go true e = omega (arith, leb-true k last_named e)
     go false e = omega arith
 
-pub last_snoc : (t : Seconds) (rs : List Entry) (r : Entry) → last_from t (rs ++ (r ∷ [])) ≡ At r.seconds
+pub last_snoc : (t : Option ℕ) (rs : List Entry) (r : Entry) → last_from t (rs ++ (r ∷ [])) ≡ Some r.seconds
 last_snoc t [] r = refl
-last_snoc t (s ∷ rs) r = last_snoc (At s.seconds) rs r
+last_snoc t (s ∷ rs) r = last_snoc (Some s.seconds) rs r
 
 first_snoc : (rs : List Entry) (r : Entry) → first_in (rs ++ (r ∷ [])) ≡ first_of (first_in rs) r.seconds
 first_snoc [] r = refl
@@ -72,7 +70,7 @@ pub raised_in : (rs : List Entry) (r : Entry) → raised (counted_in rs) r.secon
 raised_in rs r =
     let a : length rs + 1 ≡ length (rs ++ (r ∷ [])) = omega (arith, length-append rs (r ∷ [])) in
     let b = sym (first_snoc rs r) in
-    let c = sym (last_snoc Absent rs r) in
+    let c = sym (last_snoc None rs r) in
     let d = counts_snoc 0 11 (slot_of (type_of r)) rs r (omega arith) (slot_small (type_of r)) in
     λ i. record { records = a i; first = b i; last = c i; counts = d i }
 

@@ -9,7 +9,7 @@ ghost use Rattle.table.specs.Table.{numbers_at, numbers_by};
 
 // What the table has of a command. Shape: 0 unknown, 1 basic, 2 the frame of request 40, 3 colour. Rule: 0 none, 1 to 15 in the order of
 // document 01's table, 16 for request 40, 17 for a colour request.
-#[derive(Drop)]
+#[derive(Clone, Copy, Debug, PartialEq, Eq)]
 pub struct Entry {
     pub shape: u8,
     pub rule: u8,
@@ -17,6 +17,7 @@ pub struct Entry {
 
 // Shape and rule of each command as the digits of one number: 1_13 is shape 1 and rule 13. Beside it the command, and the maker's name where
 // it has one.
+// Not an array of pairs: that was tried, and the check of a constant of 256 pairs did not end in ten minutes.
 const TABLE: [u16; 256] = [
     0_00, // 00
     1_01, // 01 QUERY_GROUP_LABEL

@@ -2,5 +2,3 @@
 pub mod Tally
 -- what is claimed of it
 pub mod More
--- what only serves proofs
-pub mod Ways

@@ -1,11 +1,9 @@
 -- Document 02, W-213: "report for each of the four seasons". The tally of one record more, and its fold over the records.
-use Rattle.std.specs.Prelude.{ℕ, List, [], ◌∷◌, get_or, set}
+use Rattle.std.specs.Prelude.{ℕ, List, [], ◌∷◌, get_or, set, Option, None}
 use Rattle.refusal.specs.Test.{pick}
 use Rattle.event_type.specs.Types.{kind_number}
 use Rattle.event.specs.Reading.{Told}
 use Rattle.record.specs.Record.{Entry}
-use Rattle.summary.specs.declared.Seconds.{Seconds}
-use Rattle.summary.specs.declared.Seconds.TheVariants.{Absent}
 use Rattle.season.specs.declared.Corridor.{Corridor}
 use Rattle.season.specs.declared.Boundaries.{Boundaries}
 use Rattle.season.specs.declared.Season.{Season}
@@ -13,7 +11,7 @@ use Rattle.season.specs.Season.{is_of, season_of, no_events, with_event, gap_by,
 use Rattle.tally.specs.declared.Tally.{Tally}
 
 -- an event of the corridor at t, of type k: it counts in the season in which it lies
-abbrev pub changed : List Season → ℕ → ℕ → Seconds → List Season
+abbrev pub changed : List Season → ℕ → ℕ → Option ℕ → List Season
 changed s n k gap = set s n (with_event (get_or s n no_events) k gap)
 
 unfoldable pub noted : Boundaries → Tally → ℕ → ℕ → Tally
@@ -30,7 +28,7 @@ tallied c b x (r ∷ rs) = tallied c b (one_more c b x r.seconds r.event) rs
 
 -- of none
 abbrev pub no_tally : Tally
-no_tally = record { seasons = no_events ∷ no_events ∷ no_events ∷ no_events ∷ []; last = Absent }
+no_tally = record { seasons = no_events ∷ no_events ∷ no_events ∷ no_events ∷ []; last = None }
 
 -- THE REPORT over some records
 abbrev pub seasons_in : Corridor → Boundaries → List Entry → List Season

@@ -8,7 +8,6 @@ ghost use Rattle.tally.specs.Tally.{changed, noted, one_more, no_tally};
 
 use event::Event;
 use season::{Boundaries, Corridor, Season};
-use summary::Seconds;
 
 // "for each of the four seasons"
 pub const SEASONS: usize = 4;
@@ -18,56 +17,54 @@ pub const SEASONS: usize = 4;
 #[derive(Clone, Copy)]
 pub struct Tally {
     pub seasons: [Season; SEASONS],
-    pub last: Seconds,
+    pub last: Option<u32>,
 }
 
 // The tally of no records.
 pub fn nothing() -> Tally
     ensures { result ≡ no_tally }
 {
-    let none = season::none();
     Tally {
-        seasons: [none; SEASONS],
-        last: Seconds::Absent,
+        seasons: [season::none(); SEASONS],
+        last: None,
     }
 }
 
 // The four seasons with one more event in one of them. Its place is written out in each arm, so that the compiler keeps the others where
-// they are.
-fn change(seasons: [Season; SEASONS], i: usize, kind: u8, gap: Seconds) -> [Season; SEASONS]
+// they are: with an index an event of the corridor costs 67 instructions more (W-213 in docs/DECISIONS.md).
+fn change(mut seasons: [Season; SEASONS], i: usize, kind: u8, gap: Option<u32>) -> [Season; SEASONS]
     requires { i < 4 }
     ensures { result ≡ changed seasons i kind gap }
 {
-    let mut r = seasons;
     match i {
-        0 => r[0] = season::with_event(seasons[0], kind, gap),
-        1 => r[1] = season::with_event(seasons[1], kind, gap),
-        2 => r[2] = season::with_event(seasons[2], kind, gap),
-        _ => r[3] = season::with_event(seasons[3], kind, gap),
+        0 => seasons[0] = season::with_event(seasons[0], kind, gap),
+        1 => seasons[1] = season::with_event(seasons[1], kind, gap),
+        2 => seasons[2] = season::with_event(seasons[2], kind, gap),
+        _ => seasons[3] = season::with_event(seasons[3], kind, gap),
     }
-    r
+    seasons
 }
 
 // An event of the corridor, in the season in which it lies.
+#[tactic(auto, using(season::specs::Ways::season_small), unfolding(crate::specs::Tally::noted))]
 fn note(b: Boundaries, x: Tally, seconds: u32, kind: u8) -> Tally
     ensures { result ≡ noted b x seconds kind }
 {
-    let last = x.last;
-    let seasons = x.seasons;
-    let gap = season::gap_by(b, last, seconds, kind);
+    let gap = season::gap_by(b, x.last, seconds, kind);
     Tally {
-        seasons: change(seasons, season::season_of(b, seconds), kind, gap),
-        last: season::last_by(last, seconds, kind),
+        seasons: change(x.seasons, season::season_of(b, seconds), kind, gap),
+        last: season::last_by(x.last, seconds, kind),
     }
 }
 
 // The tally with one record more, of these seconds and this event. Events that are not of the corridor leave it as it is.
+#[tactic(auto, unfolding(crate::specs::Tally::one_more))]
 pub fn one_more(who: Corridor, b: Boundaries, x: Tally, seconds: u32, event: Event) -> Tally
     ensures { result ≡ one_more who b x seconds (said_event event) }
 {
-    if !season::is_of(who, event) {
-        return x;
+    if season::is_of(who, event) {
+        note(b, x, seconds, event.kind.number())
+    } else {
+        x
     }
-    let kind = event.kind;
-    note(b, x, seconds, kind.number())
 }

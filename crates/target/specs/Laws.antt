@@ -1,4 +1,4 @@
--- The answers leave no choice, and the three numbers go there and back.
+-- What is said of a target leaves no choice, and the three numbers go there and back.
 use Rattle.std.specs.Prelude.{ℕ, ◌+◌, ◌-◌, ◌≤◌, ◌≡◌, refl, true, false, leb}
 use Rattle.std.proofs.Common.{sym, ap, ◌∙◌, leb-true, le-leb, arith}
 use Rattle.std.proofs.lemmas.Bool.{lt-leb}
@@ -8,13 +8,7 @@ use Rattle.target.specs.declared.Group as group·struct
 use Rattle.target.specs.declared.Device.{Device}
 use Rattle.target.specs.declared.Target.{Target}
 use Rattle.target.specs.declared.Target.TheVariants.{Gear, Group, Broadcast, Nothing}
-use Rattle.target.specs.declared.OnLine.{OnLine}
-use Rattle.target.specs.declared.OnLine.TheVariants.{At as line·At, Refused as line·Refused}
-use Rattle.target.specs.declared.Addressed.{Addressed}
-use Rattle.target.specs.declared.Addressed.TheVariants.{At as device·At, Refused as device·Refused}
-use Rattle.target.specs.declared.Numbered.{Numbered}
-use Rattle.target.specs.declared.Numbered.TheVariants.{Own, Refused as number·Refused}
-use Rattle.target.specs.Target.{Aim, gear, group, broadcast, no_target, lights_of, line_of, device_of, device_number, said_target, said_line, said_device, said_number}
+use Rattle.target.specs.Target.{Aim, gear, group, broadcast, no_target, lights_of, line_of, device_of, device_number, said_target}
 
 -- the case that says an aim
 abbrev pub target_of : Aim → Target
@@ -31,24 +25,6 @@ target_back Nothing = refl
 
 pub target_one : (x y : Target) → said_target x ≡ said_target y → x ≡ y
 target_one x y e = sym (target_back x) ∙ ap target_of e ∙ target_back y
-
-pub line_one : (x y : OnLine) → said_line x ≡ said_line y → x ≡ y
-line_one (line·Refused j) (line·Refused k) e = cc
-line_one (line·Refused j) (line·At n) e = cc
-line_one (line·At m) (line·Refused k) e = cc
-line_one (line·At m) (line·At n) e = cc
-
-pub device_one : (x y : Addressed) → said_device x ≡ said_device y → x ≡ y
-device_one (device·Refused j) (device·Refused k) e = cc
-device_one (device·Refused j) (device·At n) e = cc
-device_one (device·At m) (device·Refused k) e = cc
-device_one (device·At m) (device·At n) e = cc
-
-pub number_one : (x y : Numbered) → said_number x ≡ said_number y → x ≡ y
-number_one (number·Refused j) (number·Refused k) e = cc
-number_one (number·Refused j) (Own n) e = cc
-number_one (Own m) (number·Refused k) e = cc
-number_one (Own m) (Own n) e = cc
 
 -- there and back: a group's target names that group, and a device's address has its number
 pub group_lights : (g : group·struct.Group) (t : LineTarget) → line_of g ≡ full t → lights_of t ≡ group g.0

@@ -3,18 +3,12 @@
 -- address, its own number + 64." "there are 16 groups and 64 devices, so 79 and 127 end the ranges."
 use Rattle.std.specs.Prelude.{ℕ, ◌+◌, ◌-◌, Bool, ◌&&◌, ◌||◌, leb, eqb}
 use Rattle.refusal.specs.Test.{pick}
-use Rattle.refusal.specs.Answer.{Answer, refused, full, demand}
+use Rattle.refusal.specs.Answer.{Answer, full, demand}
 use Rattle.target.specs.declared.LineTarget.{LineTarget}
 use Rattle.target.specs.declared.Group as group·struct
 use Rattle.target.specs.declared.Device.{Device}
 use Rattle.target.specs.declared.Target.{Target}
 use Rattle.target.specs.declared.Target.TheVariants.{Gear, Group, Broadcast, Nothing}
-use Rattle.target.specs.declared.OnLine.{OnLine}
-use Rattle.target.specs.declared.OnLine.TheVariants.{At as line·At, Refused as line·Refused}
-use Rattle.target.specs.declared.Addressed.{Addressed}
-use Rattle.target.specs.declared.Addressed.TheVariants.{At as device·At, Refused as device·Refused}
-use Rattle.target.specs.declared.Numbered.{Numbered}
-use Rattle.target.specs.declared.Numbered.TheVariants.{Own, Refused as number·Refused}
 
 -- the last gear, and the last group by its bare number
 abbrev pub last_gear : ℕ
@@ -94,15 +88,3 @@ said_target (Gear n) = gear n
 said_target (Group g) = group g.0
 said_target Broadcast = broadcast
 said_target Nothing = no_target
-
-abbrev pub said_line : OnLine → Answer LineTarget
-said_line (line·Refused k) = refused k
-said_line (line·At t) = full t
-
-abbrev pub said_device : Addressed → Answer Device
-said_device (device·Refused k) = refused k
-said_device (device·At a) = full a
-
-abbrev pub said_number : Numbered → Answer ℕ
-said_number (number·Refused k) = refused k
-said_number (Own n) = full n

@@ -4,7 +4,10 @@
 #![tactic(auto)]
 
 ghost use Rattle.std.specs.Prelude.{◌≡◌};
-ghost use Rattle.target.specs.Target.{is_lighting, said_target, said_line, said_device, said_number, line_of, lights_of, status_of, device_of, device_number};
+ghost use Rattle.refusal.specs.Answer.{said};
+ghost use Rattle.target.specs.Target.{is_lighting, said_target, aimed, line_of, lights_of, status_of, device_of, device_number};
+
+use refusal::Refusal;
 
 // "0–63 gear": the last gear.
 pub const LAST_GEAR: u8 = 63;
@@ -29,19 +32,19 @@ const BROADCAST: u8 = 255;
 pub const STATUS_BROADCAST: u8 = 81;
 
 // A target on the line: 0 to 63 gear, 64 to 79 group number + 64, 127 or 255 broadcast.
-#[derive(Clone, Copy)]
+#[derive(Clone, Copy, Debug, PartialEq, Eq)]
 pub struct LineTarget(pub u8);
 
 // A bare group number, 0 to 15.
-#[derive(Clone, Copy)]
+#[derive(Clone, Copy, Debug, PartialEq, Eq)]
 pub struct Group(pub u8);
 
 // A control device address, 64 to 127: the device's own number + 64.
-#[derive(Clone, Copy)]
+#[derive(Clone, Copy, Debug, PartialEq, Eq)]
 pub struct Device(pub u8);
 
 // What a line target names.
-#[derive(Clone, Copy)]
+#[derive(Clone, Copy, Debug, PartialEq, Eq)]
 pub enum Target {
     Gear(u8),
     Group(Group),
@@ -50,41 +53,37 @@ pub enum Target {
     Nothing,
 }
 
-#[derive(Drop)]
-pub enum OnLine {
-    At(LineTarget),
-    Refused(u8),
-}
-
-#[derive(Drop)]
-pub enum Addressed {
-    At(Device),
-    Refused(u8),
-}
-
-#[derive(Drop)]
-pub enum Numbered {
-    Own(u8),
-    Refused(u8),
-}
-
 // Whether a number is a lighting target.
 pub fn is_lighting(a: u8) -> bool
     ensures { result ≡ is_lighting a }
 {
-    (a <= LAST_TARGET) | ((a == LOW_BROADCAST) | (a == BROADCAST))
+    a <= LAST_TARGET || a == LOW_BROADCAST || a == BROADCAST
+}
+
+// What a number names as a target, where `broadcast` is whether it is one that names all.
+fn aimed(broadcast: bool, t: u8) -> Target
+    ensures { said_target result ≡ aimed broadcast t }
+{
+    if t <= LAST_GEAR {
+        Target::Gear(t)
+    } else if t <= LAST_TARGET {
+        Target::Group(Group(t - BASE))
+    } else if broadcast {
+        Target::Broadcast
+    } else {
+        Target::Nothing
+    }
 }
 
 impl Group {
     // The group as a target on the line; 7 where there is no such group.
-    pub fn line_target(self) -> OnLine
-        ensures { said_line result ≡ line_of self }
+    pub fn line_target(self) -> Result<LineTarget, Refusal>
+        ensures { said result ≡ line_of self }
     {
-        let g = self.0;
-        if LAST_GROUP < g {
-            return OnLine::Refused(7);
+        if self.0 > LAST_GROUP {
+            return Err(Refusal::BadArgument);
         }
-        OnLine::At(LineTarget(g + BASE))
+        Ok(LineTarget(self.0 + BASE))
     }
 }
 
@@ -93,62 +92,35 @@ impl LineTarget {
     pub fn lights(self) -> Target
         ensures { said_target result ≡ lights_of self }
     {
-        let t = self.0;
-        if t <= LAST_GEAR {
-            return Target::Gear(t);
-        }
-        if t <= LAST_TARGET {
-            return Target::Group(Group(t - BASE));
-        }
-        if t == LOW_BROADCAST {
-            return Target::Broadcast;
-        }
-        if t == BROADCAST {
-            return Target::Broadcast;
-        }
-        Target::Nothing
+        aimed(self.0 == LOW_BROADCAST || self.0 == BROADCAST, self.0)
     }
 
     // What a query of gear status (AB) with this target asks about: its broadcast is 81.
     pub fn status(self) -> Target
         ensures { said_target result ≡ status_of self }
     {
-        let t = self.0;
-        if t <= LAST_GEAR {
-            return Target::Gear(t);
-        }
-        if t <= LAST_TARGET {
-            return Target::Group(Group(t - BASE));
-        }
-        if t == STATUS_BROADCAST {
-            return Target::Broadcast;
-        }
-        Target::Nothing
+        aimed(self.0 == STATUS_BROADCAST, self.0)
     }
 }
 
 impl Device {
     // The address of the control device with this number of its own, 0 to 63; 7 where there is no such device.
-    pub fn of(number: u8) -> Addressed
-        ensures { said_device result ≡ device_of number }
+    pub fn of(number: u8) -> Result<Device, Refusal>
+        ensures { said result ≡ device_of number }
     {
-        if LAST_NUMBER < number {
-            return Addressed::Refused(7);
+        if number > LAST_NUMBER {
+            return Err(Refusal::BadArgument);
         }
-        Addressed::At(Device(number + BASE))
+        Ok(Device(number + BASE))
     }
 
     // The device's own number; 7 where this is no control device address.
-    pub fn number(self) -> Numbered
-        ensures { said_number result ≡ device_number self }
+    pub fn number(self) -> Result<u8, Refusal>
+        ensures { said result ≡ device_number self }
     {
-        let a = self.0;
-        if a < BASE {
-            return Numbered::Refused(7);
+        if self.0 < BASE || self.0 > LAST_DEVICE {
+            return Err(Refusal::BadArgument);
         }
-        if LAST_DEVICE < a {
-            return Numbered::Refused(7);
-        }
-        Numbered::Own(a - BASE)
+        Ok(self.0 - BASE)
     }
 }

@@ -1,6 +1,6 @@
 -- What is claimed of a number in decimal: its digits say it, none is to spare, and how many they are.
 use Rattle.std.specs.Prelude.{ℕ, zero, suc, ◌+◌, ◌-◌, ◌*◌, ◌/◌, ◌%◌, ◌^◌, ◌≤◌, ◌<◌, ◌≡◌, refl, Bool, true, false, List, [], ◌∷◌, ◌++◌, length, get_or, ltb}
-use Rattle.std.proofs.Common.{sym, ap, ◌∙◌, length-append, lt-ltb, ltb-true, ltb-false, pow-suc, div-lt_iff_lt-mul, le-div_iff_mul-le, mod-lt, arith}
+use Rattle.std.proofs.Common.{sym, ◌∙◌, length-append, lt-ltb, ltb-true, ltb-false, pow-suc, div-lt_iff_lt-mul, le-div_iff_mul-le, mod-lt, arith}
 use Rattle.std.proofs.Math.ListN.{get_or-append}
 use Rattle.std.proofs.Math.Nat.{pow-zero, one-le-pow}
 use Rattle.text.specs.Text.{digit, decimal_in}

@@ -1,23 +1,9 @@
--- The digits of a number in decimal as a program finds them: how many, by a search from 1 on, and each from the last one on. And the
--- numbers of one digit and of two, of which each digit is a sum.
-use Rattle.std.specs.Prelude.{ℕ, zero, suc, ◌+◌, ◌-◌, ◌*◌, ◌/◌, ◌%◌, ◌^◌, ◌≤◌, ◌<◌, ◌≡◌, refl, List, [], ◌∷◌, ◌++◌, length}
-use Rattle.std.proofs.Common.{sym, ap, ◌∙◌, length-append, lt-ltb, le-ltb, pow-suc, mod-eq_of_lt, arith}
-use Rattle.std.proofs.Math.Nat.{pow-le-pow_right}
+-- The digits of a number in decimal as a program finds them, each from the last one on. And the numbers of one digit and of two, of which
+-- each digit is a sum.
+use Rattle.std.specs.Prelude.{ℕ, zero, suc, ◌+◌, ◌/◌, ◌%◌, ◌≤◌, ◌<◌, ◌≡◌, refl, List, [], ◌∷◌, ◌++◌, length}
+use Rattle.std.proofs.Common.{ap, ◌∙◌, length-append, lt-ltb, le-ltb, mod-eq_of_lt, arith}
 use Rattle.text.specs.Text.{digit, decimal_in, decimal_of}
-use Rattle.text.specs.Decimal.{decimal_cases, snoc_length, decimal_places}
-
--- the count of its digits, as a search from 1 on finds it
-pub places_found : (k n : ℕ) → 1 ≤ k → k ≤ 20 → (1 < k → 10 ^ (k - 1) ≤ n) → n < 10 ^ k → k ≡ length (decimal_of n)
-places_found zero n one most low high = absurd (omega arith)
-places_found (suc j) n one most low high =
-    let e : suc j - 1 ≡ j = omega arith in
-    sym (decimal_places 20 j n (omega arith) (λ z. rw e at (low (omega arith))) high)
-
--- the powers up to 10 ^ 19 fit into 64 bits
-pub power_fits : (k : ℕ) → k < 19 → 10 ^ k * 10 ≤ 10 ^ 19
-power_fits k h =
-    let p : 10 ^ suc k ≤ 10 ^ 19 = pow-le-pow_right {n = 10} (omega arith) {i = suc k} {j = 19} (omega arith) in
-    rw pow-suc at p
+use Rattle.text.specs.Decimal.{decimal_cases, snoc_length}
 
 -- the last k decimal digits of a number
 unfoldable pub last_digits : ℕ → ℕ → List ℕ

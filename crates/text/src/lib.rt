@@ -5,7 +5,7 @@
 #![tactic(auto)]
 
 ghost use Rattle.std.specs.Prelude.{◌/◌, ◌%◌, ◌<◌, ◌≡◌, length};
-ghost use Rattle.text.specs.Text.{digit as digit_of, digit_of as digitValue, hex_of, hex_texts, decimal_of};
+ghost use Rattle.text.specs.Text.{digit as digit_of, digit_of as value_of_digit, hex_of, hex_texts, decimal_of};
 ghost use Rattle.lent.specs.All.{PutsAll};
 ghost use Rattle.lent.specs.Puts.{Puts};
 
@@ -31,45 +31,27 @@ pub fn low_digit(b: u8) -> u8
     digit(b % 16)
 }
 
-// What a hexadecimal digit says, capital or not; 16 for another byte.
+// What a hexadecimal digit says, capital or not; 16 for another byte. (16 and no Option: its contract, `digit_of`, says 16.)
 pub fn digit_value(c: u8) -> u8
-    ensures { result ≡ digitValue c }
+    ensures { result ≡ value_of_digit c }
 {
-    if c < 48 {
-        return 16;
+    match c {
+        48..=57 => c - 48,
+        65..=70 => c - 55,
+        97..=102 => c - 87,
+        _ => 16,
     }
-    if c <= 57 {
-        return c - 48;
-    }
-    if c < 65 {
-        return 16;
-    }
-    if c <= 70 {
-        return c - 55;
-    }
-    if c < 97 {
-        return 16;
-    }
-    if c <= 102 {
-        return c - 87;
-    }
-    16
 }
 
 // Puts a byte as two hexadecimal digits, in capitals.
 pub fn hex(out: &mut [u8], at: usize, b: u8) -> usize
     ensures { Puts (hex_of b) out.old at result out.new }
 {
-    if out.len() < 2 {
+    if out.len() < 2 || out.len() - 2 < at {
         return at;
     }
-    if out.len() - 2 < at {
-        return at;
-    }
-    let high = high_digit(b);
-    let low = low_digit(b);
-    out[at] = high;
-    out[at + 1] = low;
+    out[at] = high_digit(b);
+    out[at + 1] = low_digit(b);
     at + 2
 }
 
@@ -78,10 +60,8 @@ pub fn hexes(out: &mut [u8], at: usize, s: &[u8]) -> usize
     ensures { PutsAll (hex_texts s.now) out.old at result out.new }
 {
     let mut e = at;
-    let mut i: usize = 0;
-    while i < s.len() {
-        e = hex(out, e, s[i]);
-        i += 1;
+    for b in s {
+        e = hex(out, e, *b);
     }
     e
 }
@@ -90,16 +70,10 @@ pub fn hexes(out: &mut [u8], at: usize, s: &[u8]) -> usize
 pub fn places(n: u64) -> usize
     ensures { result ≡ length (decimal_of n) }
 {
-    let mut k: usize = 1;
-    let mut over: u64 = 10;
-    while k < 19 {
-        if n < over {
-            return k;
-        }
-        over = over * 10;
-        k += 1;
+    match n.checked_ilog10() {
+        Some(k) => k as usize + 1,
+        None => 1,
     }
-    if n < over { 19 } else { 20 }
 }
 
 // Puts a number in decimal, with no zero in front.
@@ -107,18 +81,13 @@ pub fn decimal(out: &mut [u8], at: usize, n: u64) -> usize
     ensures { Puts (decimal_of n) out.old at result out.new }
 {
     let k = places(n);
-    if out.len() < k {
-        return at;
-    }
-    if out.len() - k < at {
+    if out.len() < k || out.len() - k < at {
         return at;
     }
     let mut rest = n;
-    let mut i = k;
-    while 0 < i {
-        i -= 1;
+    for i in (0..k).rev() {
         out[at + i] = (48 + rest % 10) as u8;
-        rest = rest / 10;
+        rest /= 10;
     }
     at + k
 }

@@ -8,7 +8,7 @@ ghost use Rattle.tick.specs.Age.{age_of, is_over};
 pub fn age(clock: u32, tick: u32) -> u32
     ensures { result ≡ age_of clock tick }
 {
-    std::num::wrapping_sub_u32(clock, tick)
+    clock.wrapping_sub(tick)
 }
 
 // Whether a tick is older than a limit: one that is just as old is not.

@@ -1,6 +1,6 @@
 -- The whole program, as any program runs that goes by the answers of `next` and `read`: it writes where the answer is to write, reads
 -- behind what is held where it is to read, and stops where it is done or where a read failed.
-use Rattle.std.specs.Prelude.{ℕ, suc, ◌+◌, ◌≤◌, min, ◌≡◌, refl, true, length, take, ℤ, pos}
+use Rattle.std.specs.Prelude.{ℕ, suc, ◌+◌, ◌≤◌, min, ◌≡◌, refl, true, length, take, ℤ, pos, Some, None}
 use Rattle.std.proofs.Common.{sym, ◌∙◌, arith}
 use Rattle.std.proofs.Math.Path.{ap}
 use Rattle.std.proofs.Math.Bool.{false}
@@ -18,8 +18,7 @@ use Rattle.items.specs.Pour.{longest_line}
 use Rattle.items.specs.Room.{none_stands, none_left}
 use Rattle.turns.specs.declared.Turn.{Turn}
 use Rattle.turns.specs.declared.Act.TheVariants.{Write, Read, Done}
-use Rattle.turns.specs.declared.After.TheVariants.{Failed, Goes}
-use Rattle.turns.specs.Turn.{start, held_by, poured_by, Turns, read_after, said_after}
+use Rattle.turns.specs.Turn.{start, held_by, poured_by, Turns, read_after}
 use Rattle.turns.specs.Next.{take_least}
 use Rattle.turns.specs.Said.{turn_room, turn_writes, turn_reads, turn_done}
 
@@ -39,18 +38,18 @@ pub data Run (on : Line) : Turn → List ℕ → List ℕ → List (List ℕ) �
       → Turns on t buf out (Read u) buf' out'
       → 1 ≤ length p
       → take (u.end + length p) buf'' ≡ take u.end buf' ++ p
-      → said_after (Goes v) ≡ read_after u (pos (length p)) (length buf'')
+      → Some v ≡ read_after u (pos (length p)) (length buf'')
       → Run on v buf'' out' ps text e
       → Run on t buf out (p ∷ ps) text e
   reads_end : {t u v : Turn} {buf buf' buf'' out out' text : List ℕ} {e : End}
       → Turns on t buf out (Read u) buf' out'
       → take u.end buf'' ≡ take u.end buf'
-      → said_after (Goes v) ≡ read_after u (pos 0) (length buf'')
+      → Some v ≡ read_after u (pos 0) (length buf'')
       → Run on v buf'' out' [] text e
       → Run on t buf out [] text e
   read_fails : {t u : Turn} {buf buf' out out' : List ℕ} (got : ℤ) (size : ℕ)
       → Turns on t buf out (Read u) buf' out'
-      → said_after Failed ≡ read_after u got size
+      → None ≡ read_after u got size
       → Run on t buf out [] [] (broken (held_by u buf'))
   is_done : {t : Turn} {buf buf' out out' : List ℕ} {ps : List (List ℕ)}
       → Turns on t buf out Done buf' out'
@@ -63,13 +62,13 @@ left_at (broken l) = l
 
 -- a read of some bytes, and one of none
 read_some : (u v : Turn) (p buf' buf'' : List ℕ) → 1 ≤ length p → u.at ≡ 0 → take (u.end + length p) buf'' ≡ take u.end buf' ++ p
-    → said_after (Goes v) ≡ read_after u (pos (length p)) (length buf'') → (held_by v buf'' ≡ take u.end buf' ++ p) × (v.closed ≡ u.closed)
+    → Some v ≡ read_after u (pos (length p)) (length buf'') → (held_by v buf'' ≡ take u.end buf' ++ p) × (v.closed ≡ u.closed)
 read_some u v [] buf' buf'' h z b e = absurd (omega arith)
 read_some u v (x ∷ p) buf' buf'' h z b e =
     let q : v ≡ record { at = u.at; end = min (u.end + suc (length p)) (length buf''); closed = u.closed } = cc in
     (rw (q, z, take_least (u.end + suc (length p)) buf'') b, rw q)
 
-read_none : (u v : Turn) (buf'' : List ℕ) (size : ℕ) → u.at ≡ 0 → said_after (Goes v) ≡ read_after u (pos 0) size
+read_none : (u v : Turn) (buf'' : List ℕ) (size : ℕ) → u.at ≡ 0 → Some v ≡ read_after u (pos 0) size
     → (held_by v buf'' ≡ take u.end buf'') × (v.closed ≡ true)
 read_none u v buf'' size z e =
     let q : v ≡ record { at = u.at; end = u.end; closed = true } = cc in

@@ -1,5 +1,5 @@
 -- What an answer of `next` tells of the turn.
-use Rattle.std.specs.Prelude.{ℕ, zero, ◌+◌, ◌≤◌, ◌≡◌, refl, Bool, true, false, List, [], ◌∷◌, ◌++◌, length, take, drop}
+use Rattle.std.specs.Prelude.{ℕ, ◌+◌, ◌≤◌, ◌≡◌, refl, Bool, true, false, List, [], ◌∷◌, ◌++◌, length, take, drop}
 use Rattle.std.proofs.Common.{sym, ap, ◌∙◌, length-append, length-drop, drop-drop, arith}
 use Rattle.std.proofs.Math.Seq.{take-append_seam}
 use Rattle.refusal.specs.Test.{pick, clash}

@@ -1,6 +1,6 @@
 -- Document 01, "A small program": "It reads a reply line from standard input to its end and prints one line for each item". Turn by turn:
 -- what to do next, and what a read makes of what is held.
-use Rattle.std.specs.Prelude.{ℕ, zero, suc, ◌+◌, min, ◌≡◌, refl, true, false, List, [], ◌∷◌, ◌++◌, length, drop, ℤ, pos, negsuc}
+use Rattle.std.specs.Prelude.{ℕ, zero, suc, ◌+◌, min, ◌≡◌, refl, true, false, List, [], ◌∷◌, ◌++◌, length, drop, ℤ, pos, negsuc, Option, Some, None}
 use Rattle.std.proofs.Common.{sym, ◌∙◌}
 use Rattle.refusal.specs.Test.{pick, clash}
 use Rattle.stream.specs.Stream.{Item, counts_of}
@@ -10,8 +10,6 @@ use Rattle.items.specs.Pour.{poured}
 use Rattle.turns.specs.declared.Turn.{Turn}
 use Rattle.turns.specs.declared.Act.{Act}
 use Rattle.turns.specs.declared.Act.TheVariants.{Write, Read, Done}
-use Rattle.turns.specs.declared.After.{After}
-use Rattle.turns.specs.declared.After.TheVariants.{Failed, Goes}
 use Rattle.turns.specs.Keep.{unread}
 
 -- a run begins with nothing held
@@ -66,21 +64,12 @@ pub record Turns (on : Line) (t : Turn) (buf out : List ℕ) (r : Act) (buf' out
   pub keeps : buf' ≡ buffer_after (doing_next on t buf (length out)) (held_by t buf) buf
   pub leaves : out' ≡ in_front (text_of (poured_by on t buf (length out))) out
 
--- what a read makes of a turn
-pub data Onward : Type 0 where
-  failed : Onward
-  goes : Turn → Onward
-
--- by what the read answered, in a buffer of so many bytes: a failed read (a negative answer) is no end of the input; no byte is its end,
--- and closes the line; else so many bytes more are held
-abbrev pub read_after : Turn → ℤ → ℕ → Onward
-read_after t (negsuc k) size = failed
-read_after t (pos zero) size = goes (record { at = t.at; end = t.end; closed = true })
-read_after t (pos (suc n)) size = goes (record { at = t.at; end = min (t.end + suc n) size; closed = t.closed })
-
-abbrev pub said_after : After → Onward
-said_after Failed = failed
-said_after (Goes t) = goes t
+-- what a read makes of a turn, by what it answered, in a buffer of so many bytes: a failed read (a negative answer) is no end of the input,
+-- and the run does not go on; no byte is its end, and closes the line; else so many bytes more are held
+abbrev pub read_after : Turn → ℤ → ℕ → Option Turn
+read_after t (negsuc k) size = None
+read_after t (pos zero) size = Some (record { at = t.at; end = t.end; closed = true })
+read_after t (pos (suc n)) size = Some (record { at = t.at; end = min (t.end + suc n) size; closed = t.closed })
 
 -- they leave no choice
 act_same : (x y : Act) → said_act x ≡ said_act y → x ≡ y
@@ -97,9 +86,3 @@ act_same Done Done e = refl
 pub next_one : {on : Line} {t : Turn} {buf out a b o p : List ℕ} {r q : Act}
     → Turns on t buf out r a o → Turns on t buf out q b p → (r ≡ q) × (a ≡ b) × (o ≡ p)
 next_one {r = r} {q = q} x y = (act_same r q (x.says ∙ sym y.says), x.keeps ∙ sym y.keeps, x.leaves ∙ sym y.leaves)
-
-pub after_one : (x y : After) → said_after x ≡ said_after y → x ≡ y
-after_one Failed Failed e = refl
-after_one Failed (Goes t) e = clash (cc)
-after_one (Goes t) Failed e = clash (cc)
-after_one (Goes t) (Goes u) e = cc

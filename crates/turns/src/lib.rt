@@ -5,12 +5,12 @@
 
 ghost use Rattle.std.specs.Prelude.{◌+◌, min, ◌≡◌};
 ghost use Rattle.turns.specs.Keep.{Keeps};
-ghost use Rattle.turns.specs.Turn.{start, Turns, said_after, read_after};
+ghost use Rattle.turns.specs.Turn.{start, Turns, read_after};
 
 use line::Line;
 
 // Where a run stands: the bytes of its buffer from a place on, up to an end, are held and not poured yet; and whether the line is closed.
-#[derive(Drop)]
+#[derive(Clone, Copy, Debug, PartialEq, Eq)]
 pub struct Turn {
     pub at: usize,
     pub end: usize,
@@ -19,18 +19,11 @@ pub struct Turn {
 
 // What a program does next: it writes so many bytes of the text, and goes on; it reads behind the bytes that it holds, which stand in
 // front of its buffer, and goes on by what the read answered; or it is done.
-#[derive(Drop)]
+#[derive(Clone, Copy, Debug)]
 pub enum Act {
     Write(usize, Turn),
     Read(Turn),
     Done,
-}
-
-// What a read makes of a turn: it failed, or the run goes on.
-#[derive(Drop)]
-pub enum After {
-    Failed,
-    Goes(Turn),
 }
 
 // A run begins with nothing held.
@@ -44,27 +37,16 @@ pub fn fresh() -> Turn
     }
 }
 
-fn least(a: usize, b: usize) -> usize
-    ensures { result ≡ min a b }
-{
-    if a < b { a } else { b }
-}
-
 // Moves the bytes of a buffer from a place on, up to an end, to its front, and answers how many they are.
 pub fn keep(buf: &mut [u8], from: usize, end: usize) -> usize
     ensures { Keeps buf.old from end result buf.new }
 {
-    let e = least(end, buf.len());
+    let e = end.min(buf.len());
     if e <= from {
         return 0;
     }
-    let n = e - from;
-    let mut i: usize = 0;
-    while i < n {
-        buf[i] = buf[from + i];
-        i += 1;
-    }
-    n
+    buf.copy_within(from..e, 0);
+    e - from
 }
 
 // What to do next: the items that stand in what is held are poured, and where there are such their text is to be written; else more is
@@ -73,7 +55,7 @@ pub fn next(line: Line, turn: Turn, buf: &mut [u8], out: &mut [u8]) -> Act
     ensures { Turns line turn buf.old out.old result buf.new out.new }
 {
     let closed = turn.closed;
-    let e = least(turn.end, buf.len());
+    let e = turn.end.min(buf.len());
     let poured = items::pour(line, &buf[..e], turn.at, closed, out);
     let wrote = poured.wrote;
     if 0 < wrote {
@@ -82,7 +64,7 @@ pub fn next(line: Line, turn: Turn, buf: &mut [u8], out: &mut [u8]) -> Act
             Turn {
                 at: poured.read,
                 end: e,
-                closed: closed,
+                closed,
             },
         );
     }
@@ -98,25 +80,23 @@ pub fn next(line: Line, turn: Turn, buf: &mut [u8], out: &mut [u8]) -> Act
 }
 
 // What a read behind the bytes that are held makes of the turn, by what it answered, in a buffer of so many bytes: a negative number is
-// a failure and no end of the input; no byte is the end of the input, and the line is closed; else so many bytes more are held.
-pub fn read(turn: Turn, got: isize, size: usize) -> After
-    ensures { said_after result ≡ read_after turn got size }
+// a failure, which is no end of the input, and the run does not go on; no byte is the end of the input, and the line is closed; else so many bytes more are held.
+pub fn read(turn: Turn, got: isize, size: usize) -> Option<Turn>
+    ensures { result ≡ read_after turn got size }
 {
     if got < 0 {
-        return After::Failed;
+        return None;
     }
     let n = got as usize;
     if n == 0 {
-        return After::Goes(Turn {
-            at: turn.at,
-            end: turn.end,
+        return Some(Turn {
             closed: true,
+            ..turn
         });
     }
-    After::Goes(Turn {
-        at: turn.at,
+    Some(Turn {
         end: behind(turn.end, n, size),
-        closed: turn.closed,
+        ..turn
     })
 }
 
@@ -124,11 +104,5 @@ pub fn read(turn: Turn, got: isize, size: usize) -> After
 fn behind(end: usize, n: usize, size: usize) -> usize
     ensures { result ≡ min (end + n) size }
 {
-    if size < n {
-        return size;
-    }
-    if size - n < end {
-        return size;
-    }
-    end + n
+    end.saturating_add(n).min(size)
 }

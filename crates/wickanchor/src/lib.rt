@@ -14,7 +14,7 @@ ghost use Rattle.command.specs.Command.{is_known, numbers_in};
 ghost use Rattle.command.specs.Colours.{xy_type, tc_type, rgbwaf_type};
 ghost use Rattle.profile.specs.declared.Profile.TheVariants.{Open, Quiet};
 ghost use Rattle.profile.specs.Profile.{is_inside};
-ghost use Rattle.colour.specs.Colour.{hue};
+ghost use Rattle.colour.specs.Colour.{hue, said_colour};
 ghost use Rattle.request.specs.Reading.{read_request};
 ghost use Rattle.request.specs.Writing.{basic_frame, unicast_frame, colour_frame, handed_on};
 ghost use Rattle.error.specs.Error.{name_of};
@@ -28,9 +28,8 @@ ghost use Rattle.filters.specs.Filters.{filters_of, entry_of};
 ghost use Rattle.filter_plan.specs.Plan.{left_of, checked};
 ghost use Rattle.filter_plan.specs.Table.{left_by};
 ghost use Rattle.filter_since.specs.Trace.{since_of};
-ghost use Rattle.summary.specs.Summary.{counted_in, counting};
-ghost use Rattle.capture.specs.Capture.{opened, counted, prefixed, found, nothing_kept, entry_at};
-ghost use Rattle.report.specs.Report.{reported, reporting};
+ghost use Rattle.capture.specs.Capture.{opened, counted, prefixed, nothing_kept, entry_at};
+ghost use Rattle.report.specs.Report.{reported};
 ghost use Rattle.by_parts.specs.Parts.{begun, parted, ended};
 ghost use Rattle.book.specs.Ticks.{timed, fresh_timed, GivesUp};
 ghost use Rattle.clock_text.specs.Clock.{read_clock};
@@ -70,6 +69,7 @@ use c_values::{
     WickBook, WickBooked, WickEntry, WickFilter, WickFilters, WickGiven, WickItem, WickNumber,
     WickQuiet, WickReader,
 };
+use capture::Kept;
 use clock_day::Given;
 use colour::Colour;
 use event::Layout;
@@ -158,6 +158,22 @@ pub extern "C" fn wick_write_unicast(
     ))
 }
 
+// Writes a colour request of any type under a profile. (What the writers with and without the quiet profile share stands here and in crate
+// request_writers; that each is a function of its own is C's interface.)
+fn write_colour(
+    profile: Profile,
+    sequence: u8,
+    target: u8,
+    level: u8,
+    colour: Colour,
+    out: &mut [u8],
+) -> WickWrote
+    ensures { WrittenOut (colour_frame profile sequence (record { 0 = target }) level (said_colour colour)) out.old result out.new }
+{
+    let target = LineTarget(target);
+    c_datagrams::wrote_out(request_writers::colour(profile, sequence, target, level, colour, out))
+}
+
 // Writes a colour request of type 10.
 #[unsafe(no_mangle)]
 pub extern "C" fn wick_write_colour_xy(
@@ -170,15 +186,14 @@ pub extern "C" fn wick_write_colour_xy(
 ) -> WickWrote
     ensures { WrittenOut (colour_frame Open sequence (record { 0 = target }) level (hue xy_type (x ∷ y ∷ []))) out.old result out.new }
 {
-    let colour = Colour::Xy { x, y };
-    c_datagrams::wrote_out(request_writers::colour(
+    write_colour(
         Profile::Open,
         sequence,
-        LineTarget(target),
+        target,
         level,
-        colour,
+        Colour::Xy { x, y },
         out,
-    ))
+    )
 }
 
 // Writes a colour request of type 20.
@@ -192,15 +207,7 @@ pub extern "C" fn wick_write_colour_tc(
 ) -> WickWrote
     ensures { WrittenOut (colour_frame Open sequence (record { 0 = target }) level (hue tc_type (tc ∷ []))) out.old result out.new }
 {
-    let colour = Colour::Tc(tc);
-    c_datagrams::wrote_out(request_writers::colour(
-        Profile::Open,
-        sequence,
-        LineTarget(target),
-        level,
-        colour,
-        out,
-    ))
+    write_colour(Profile::Open, sequence, target, level, Colour::Tc(tc), out)
 }
 
 // Writes a colour request of type 80.
@@ -227,14 +234,7 @@ pub extern "C" fn wick_write_colour_rgbwaf(
         amber,
         free,
     };
-    c_datagrams::wrote_out(request_writers::colour(
-        Profile::Open,
-        sequence,
-        LineTarget(target),
-        level,
-        colour,
-        out,
-    ))
+    write_colour(Profile::Open, sequence, target, level, colour, out)
 }
 
 // Writes a basic request under the quiet profile: 13 where its command is outside.
@@ -290,15 +290,14 @@ pub extern "C" fn wick_write_colour_xy_quiet(
 ) -> WickWrote
     ensures { WrittenOut (colour_frame Quiet sequence (record { 0 = target }) level (hue xy_type (x ∷ y ∷ []))) out.old result out.new }
 {
-    let colour = Colour::Xy { x, y };
-    c_datagrams::wrote_out(request_writers::colour(
+    write_colour(
         Profile::Quiet,
         sequence,
-        LineTarget(target),
+        target,
         level,
-        colour,
+        Colour::Xy { x, y },
         out,
-    ))
+    )
 }
 
 // Writes nothing: a colour request, here of type 20, is outside the quiet profile, 13; 7 comes first.
@@ -312,15 +311,7 @@ pub extern "C" fn wick_write_colour_tc_quiet(
 ) -> WickWrote
     ensures { WrittenOut (colour_frame Quiet sequence (record { 0 = target }) level (hue tc_type (tc ∷ []))) out.old result out.new }
 {
-    let colour = Colour::Tc(tc);
-    c_datagrams::wrote_out(request_writers::colour(
-        Profile::Quiet,
-        sequence,
-        LineTarget(target),
-        level,
-        colour,
-        out,
-    ))
+    write_colour(Profile::Quiet, sequence, target, level, Colour::Tc(tc), out)
 }
 
 // Writes nothing: a colour request, here of type 80, is outside the quiet profile, 13; 7 comes first.
@@ -347,14 +338,7 @@ pub extern "C" fn wick_write_colour_rgbwaf_quiet(
         amber,
         free,
     };
-    c_datagrams::wrote_out(request_writers::colour(
-        Profile::Quiet,
-        sequence,
-        LineTarget(target),
-        level,
-        colour,
-        out,
-    ))
+    write_colour(Profile::Quiet, sequence, target, level, colour, out)
 }
 
 // Reads a request and writes it again, unless its command is retired.
@@ -420,8 +404,8 @@ pub extern "C" fn wick_event(s: &[u8]) -> WickEvent
     ensures { result ≡ event_out 3 (read_event 3 s.now) }
 {
     match event::read(Layout::Three, s) {
-        event::Reading::Accepted(e) => c_datagrams::event_out(Layout::Three, e),
-        event::Reading::Refused(k) => {
+        Ok(e) => c_datagrams::event_out(Layout::Three, e),
+        Err(k) => {
             return c_datagrams::event_refused(k);
         }
     }
@@ -462,8 +446,8 @@ pub extern "C" fn wick_event_two(s: &[u8]) -> WickEvent
     ensures { result ≡ event_out 2 (read_event 2 s.now) }
 {
     match event::read(Layout::Two, s) {
-        event::Reading::Accepted(e) => c_datagrams::event_out(Layout::Two, e),
-        event::Reading::Refused(k) => {
+        Ok(e) => c_datagrams::event_out(Layout::Two, e),
+        Err(k) => {
             return c_datagrams::event_refused(k);
         }
     }
@@ -503,7 +487,7 @@ pub extern "C" fn wick_relay_event_two(s: &[u8], out: &mut [u8]) -> WickWrote
 pub extern "C" fn wick_mask(s: &[u8]) -> WickNumber
     ensures { result ≡ number_out (mask_of s.now) }
 {
-    c_values::map16_out(maps::mask(s))
+    c_values::number_out(maps::mask(s).map(u64::from))
 }
 
 // How many event types a mask names.
@@ -519,7 +503,7 @@ pub extern "C" fn wick_count_types(mask: u16) -> u32
 pub extern "C" fn wick_lowest_type(mask: u16) -> WickNumber
     ensures { result ≡ number_out (lowest_of 16 mask) }
 {
-    c_values::lowest_out(maps::lowest_type(mask))
+    c_values::number_out(maps::lowest_type(mask).map(u64::from))
 }
 
 // The scenes of a group, from the reply to 1A.
@@ -527,7 +511,7 @@ pub extern "C" fn wick_lowest_type(mask: u16) -> WickNumber
 pub extern "C" fn wick_scenes(s: &[u8]) -> WickNumber
     ensures { result ≡ number_out (scenes_of s.now) }
 {
-    c_values::map16_out(maps::scenes(s))
+    c_values::number_out(maps::scenes(s).map(u64::from))
 }
 
 // The gear present, from the reply to 1D.
@@ -535,7 +519,7 @@ pub extern "C" fn wick_scenes(s: &[u8]) -> WickNumber
 pub extern "C" fn wick_gear(s: &[u8]) -> WickNumber
     ensures { result ≡ number_out (gear_of s.now) }
 {
-    c_values::map64_out(maps::gear(s))
+    c_values::number_out(maps::gear(s))
 }
 
 // How many gear are present.
@@ -551,7 +535,7 @@ pub extern "C" fn wick_count_gear(gear: u64) -> u32
 pub extern "C" fn wick_lowest_gear(gear: u64) -> WickNumber
     ensures { result ≡ number_out (lowest_of 64 gear) }
 {
-    c_values::lowest_out(maps::lowest_gear(gear))
+    c_values::number_out(maps::lowest_gear(gear).map(u64::from))
 }
 
 // The gear types, from the reply to AC.
@@ -559,7 +543,7 @@ pub extern "C" fn wick_lowest_gear(gear: u64) -> WickNumber
 pub extern "C" fn wick_types(s: &[u8]) -> WickNumber
     ensures { result ≡ number_out (types_of s.now) }
 {
-    c_values::map32_out(maps::types(s))
+    c_values::number_out(maps::types(s).map(u64::from))
 }
 
 // The mode byte of the filters in the reply to 32, and how many entries follow it.
@@ -599,7 +583,7 @@ pub extern "C" fn wick_device(number: u8) -> WickNumber
 pub extern "C" fn wick_device_number(address: u8) -> WickNumber
     ensures { result ≡ number_out (device_number (record { 0 = address })) }
 {
-    c_values::own_out(Device(address).number())
+    c_values::number_out(Device(address).number().map(u64::from))
 }
 
 // What a lighting command with this target lights.
@@ -637,7 +621,7 @@ pub extern "C" fn wick_ask(
 ) -> WickBooked
     ensures { AsksOut (timed asked.old last.old ticks.old) command tick result (timed asked.new last.new ticks.new) }
 {
-    c_values::asked_out(book::ask(asked, last, ticks, command, tick))
+    c_values::booked_out(book::ask(asked, last, ticks, command, tick))
 }
 
 // Takes a reply's sequence number: the command that was asked under it.
@@ -645,7 +629,7 @@ pub extern "C" fn wick_ask(
 pub extern "C" fn wick_answer(asked: &mut [u8; 256], number: u8) -> WickBooked
     ensures { RepliesOut asked.old number result asked.new }
 {
-    c_values::replied_out(book::reply(asked, number))
+    c_values::booked_out(book::reply(asked, number))
 }
 
 // Gives up each request that was asked longer ago than a limit, by the tick now: how many these were.
@@ -706,7 +690,7 @@ pub extern "C" fn wick_quiet(s: &[u8]) -> WickQuiet
 pub extern "C" fn wick_capture_empty(version: u8, buf: &mut [u8]) -> WickCapture
     ensures { EmptiesOut buf.old version result buf.new }
 {
-    c_capture::found_out(append::empty(buf, version))
+    c_capture::found_out(append::empty(buf, version), capture::nothing_kept())
 }
 
 // Appends an event to a capture by the letter.
@@ -720,13 +704,8 @@ pub extern "C" fn wick_capture_append(
 ) -> WickAppended
     ensures { AppendsOut buf.old used (summary_in summary) seconds datagram.now result buf.new }
 {
-    c_capture::appended_out(append::append(
-        buf,
-        used,
-        c_capture::summary_in(summary),
-        seconds,
-        datagram,
-    ))
+    let x = c_capture::summary_in(summary);
+    c_capture::appended_out(append::append(buf, used, x, seconds, datagram), used, x)
 }
 
 // Appends an event to a capture by a mark.
@@ -740,13 +719,12 @@ pub extern "C" fn wick_capture_append_at(
 ) -> WickCapture
     ensures { AppendsAtOut buf.old (mark_in mark) (summary_in summary) seconds datagram.now result buf.new }
 {
-    c_capture::found_out(append::append_at(
-        buf,
-        c_capture::mark_in(mark),
-        c_capture::summary_in(summary),
-        seconds,
-        datagram,
-    ))
+    let mark = c_capture::mark_in(mark);
+    let x = c_capture::summary_in(summary);
+    c_capture::found_out(
+        append::append_at(buf, mark, x, seconds, datagram),
+        Kept { mark, summary: x },
+    )
 }
 
 // Appends a run of events to a capture by the letter, each led by its length.
@@ -760,7 +738,8 @@ pub extern "C" fn wick_capture_run(
 ) -> WickRan
     ensures { RunsOut buf.old used (summary_in summary) seconds run.now result buf.new }
 {
-    c_capture::ran_out(morning::run(buf, used, c_capture::summary_in(summary), seconds, run))
+    let x = c_capture::summary_in(summary);
+    c_capture::ran_out(morning::run(buf, used, x, seconds, run), used, x)
 }
 
 // Appends a run of events to a capture by a mark.
@@ -774,13 +753,9 @@ pub extern "C" fn wick_capture_run_at(
 ) -> WickRanAt
     ensures { RunsAtOut buf.old (mark_in mark) (summary_in summary) seconds run.now result buf.new }
 {
-    c_capture::ran_at_out(morning::run_at(
-        buf,
-        c_capture::mark_in(mark),
-        c_capture::summary_in(summary),
-        seconds,
-        run,
-    ))
+    let mark = c_capture::mark_in(mark);
+    let x = c_capture::summary_in(summary);
+    c_capture::ran_at_out(morning::run_at(buf, mark, x, seconds, run), mark, x)
 }
 
 // Opens a capture: its mark.
@@ -794,7 +769,7 @@ pub extern "C" fn wick_capture_open(buf: &[u8], used: usize) -> WickOpened
 // Counts a capture afresh.
 #[unsafe(no_mangle)]
 pub extern "C" fn wick_capture_count(buf: &[u8], used: usize) -> WickCounted
-    ensures { result ≡ counted_out (counting (counted buf.now used) (counted_in [])) }
+    ensures { result ≡ counted_out (counted buf.now used) }
 {
     c_capture::counted_out(capture::count(buf, used))
 }
@@ -802,9 +777,9 @@ pub extern "C" fn wick_capture_count(buf: &[u8], used: usize) -> WickCounted
 // The longest good capture at the front of the bytes in use.
 #[unsafe(no_mangle)]
 pub extern "C" fn wick_capture_prefix(buf: &[u8], used: usize) -> WickCapture
-    ensures { result ≡ found_out (found (prefixed buf.now used) nothing_kept) }
+    ensures { result ≡ found_out (prefixed buf.now used) nothing_kept }
 {
-    c_capture::found_out(capture::prefix(buf, used))
+    c_capture::found_out(capture::prefix(buf, used), capture::nothing_kept())
 }
 
 // The record that begins at a place of a capture.
@@ -823,7 +798,7 @@ pub extern "C" fn wick_capture_seasons(
     who: WickCorridor,
     boundaries: WickBoundaries,
 ) -> WickSeasons
-    ensures { result ≡ seasons_out (reporting (reported buf.now used (corridor_in who) (boundaries_in boundaries))) }
+    ensures { result ≡ seasons_out (reported buf.now used (corridor_in who) (boundaries_in boundaries)) }
 {
     c_seasons::seasons_out(report::report(
         buf,
@@ -858,7 +833,7 @@ pub extern "C" fn wick_seasons_part(state: WickSeasonsState, part: &[u8]) -> Wic
 // The four seasons, where no more parts come.
 #[unsafe(no_mangle)]
 pub extern "C" fn wick_seasons_end(state: WickSeasonsState) -> WickSeasons
-    ensures { result ≡ seasons_out (reporting (ended (state_in state))) }
+    ensures { result ≡ seasons_out (ended (state_in state)) }
 {
     c_seasons::seasons_out(by_parts::end(c_seasons::state_in(state)))
 }

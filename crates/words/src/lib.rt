@@ -10,31 +10,27 @@ ghost use Rattle.words.specs.Words.{before, first_in, word_in};
 pub fn until(s: &[u8], from: usize, b: u8) -> usize
     ensures { result ≡ from + before b (drop from s.now) }
 {
-    let mut i = from;
-    while i < s.len() {
+    for i in from..s.len() {
         if s[i] == b {
             return i;
         }
-        i += 1;
     }
-    i
+    from.max(s.len())
 }
 
 // Where a word begins; where there are fewer words, the run's end.
 fn start(names: &[u8], part: u8, k: usize) -> usize
     ensures { (result ≤ length names.now) × (first_in part (drop result names.now) ≡ word_in part k names.now) }
 {
-    let mut i: usize = 0;
-    let mut left = k;
-    while 0 < left {
-        let e = until(names, i, part);
+    let mut at = 0;
+    for _ in 0..k {
+        let e = until(names, at, part);
         if names.len() <= e {
             return names.len();
         }
-        i = e + 1;
-        left -= 1;
+        at = e + 1;
     }
-    i
+    at
 }
 
 // Puts a word; where there are fewer words, nothing.

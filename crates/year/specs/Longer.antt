@@ -1,6 +1,6 @@
 -- A whole capture made longer by an append: the earlier bytes and records stay, the record that went in is read back where it was put, and
 -- where its write was torn, nothing else is lost.
-use Rattle.std.specs.Prelude.{ℕ, ◌+◌, ◌≤◌, ◌<◌, ◌≡◌, refl, Bool, true, false, List, [], ◌∷◌, ◌++◌, length, take, drop, leb, ltb}
+use Rattle.std.specs.Prelude.{None, ℕ, ◌+◌, ◌≤◌, ◌<◌, ◌≡◌, refl, Bool, true, false, List, [], ◌∷◌, ◌++◌, length, take, drop, leb, ltb}
 use Rattle.std.proofs.Common.{sym, ap, ◌∙◌, append_assoc, append-nil, length-append, take_at, length-take-le, leb-true, ltb-true, ltb-false, arith}
 use Rattle.refusal.specs.Test.{clash}
 use Rattle.refusal.specs.Answer.{Answer, refused, full, demand_elim, full_one}
@@ -15,7 +15,6 @@ use Rattle.event.specs.Fits.{width_two_or_three, read_fits}
 use Rattle.event.specs.Reading.{Told, read_event}
 use Rattle.record.specs.Record.{Entry, record_bytes, record_size}
 use Rattle.record.specs.Found.{record_length}
-use Rattle.summary.specs.declared.Seconds.TheVariants.{Absent}
 use Rattle.summary.specs.declared.Summary.{Summary}
 use Rattle.summary.specs.Summary.{last_from, not_before, counted_in, most, type_of, one_more}
 use Rattle.summary.specs.OneMore.{one_more_lem, no_more}
@@ -44,7 +43,7 @@ module _ {b : List ℕ} {u : ℕ} {rs : List Entry} (r : Entry) (c : Whole b u r
       ap (λ (l : List ℕ). byte 0 (l ++ x ++ drop (u + length x) b)) c.bytes
 
   -- and it is a whole capture with that record more
-  pub whole_longer : u + record_size r.datagram ≤ length b → Fits (width_in b) (last_from Absent rs) r
+  pub whole_longer : u + record_size r.datagram ≤ length b → Fits (width_in b) (last_from None rs) r
       → Whole (over (record_bytes r.seconds r.datagram) b u) (u + record_size r.datagram) (rs ++ (r ∷ []))
   whole_longer room f =
       let x : List ℕ = record_bytes r.seconds r.datagram in
@@ -61,7 +60,7 @@ module _ {b : List ℕ} {u : ℕ} {rs : List Entry} (r : Entry) (c : Whole b u r
             ∙ ap (λ (l : List ℕ). byte 0 b ∷ bytes_of rs ++ l) (sym (append-nil x))
             ∙ ap (λ (l : List ℕ). byte 0 b ∷ l) (sym (bytes_of_append rs (r ∷ [])))
             ∙ ap (λ (w : ℕ). w ∷ bytes_of (rs ++ (r ∷ []))) (sym v);
-        good = rw v (good_append (width_in b) Absent rs (r ∷ []) c.good (f, tt));
+        good = rw v (good_append (width_in b) None rs (r ∷ []) c.good (f, tt));
       }
 
 -- WHAT AN APPEND THAT GOES IN HAS: the capture opens, its datagram is an event, which is not before the last record, and there is room
@@ -107,7 +106,7 @@ module _ (b : List ℕ) (u : ℕ) (x : Summary) (t : ℕ) (d : List ℕ) {y : Su
   room_there : u + record_size d ≤ length b
   room_there = omega (arith, (enters b u x t d went).room, ap (λ (m : Mark). m.used) old_whole.1, whole_used old_whole.0)
 
-  record_fits : Fits (width_in b) (last_from Absent (records_of b u)) (entry t d e)
+  record_fits : Fits (width_in b) (last_from None (records_of b u)) (entry t d e)
   record_fits =
       let f = read_fits (width_in b) d e said in
       record {

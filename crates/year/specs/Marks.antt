@@ -1,12 +1,11 @@
 -- Marks: one that is handed out says of the buffer what opening it says, and by such a mark an append is judged as by the letter.
-use Rattle.std.specs.Prelude.{ℕ, ◌+◌, ◌≤◌, ◌<◌, ◌≡◌, refl, Bool, true, false, ◌||◌, List, [], ◌∷◌, ◌++◌, length, take, leb, eqb}
+use Rattle.std.specs.Prelude.{Some, None, ℕ, ◌+◌, ◌≤◌, ◌<◌, ◌≡◌, refl, Bool, true, false, ◌||◌, List, [], ◌∷◌, ◌++◌, length, take, leb, eqb}
 use Rattle.std.proofs.Common.{sym, ap, ◌∙◌, eqb-true, arith}
 use Rattle.refusal.specs.Test.{clash}
 use Rattle.refusal.specs.Answer.{full, demand_elim, full_one}
 use Rattle.sum.specs.Bytes.{Bytes, bytes_none, bytes_cons}
 use Rattle.lent.specs.Puts.{over}
 use Rattle.record.specs.Record.{record_bytes, record_size}
-use Rattle.summary.specs.declared.Seconds.TheVariants.{Absent, At}
 use Rattle.summary.specs.declared.Summary.{Summary}
 use Rattle.summary.specs.OneMore.{last_snoc}
 use Rattle.capture.specs.declared.Mark.{Mark}
@@ -62,7 +61,7 @@ prefix_marks b u h e = (prefix_whole b u h e).0
 
 -- and that of an append by such a mark
 pub append_marks : (b : List ℕ) (m : Mark) (x : Summary) (t : ℕ) (d : List ℕ) {y : Summary} → Bytes b → t < 4294967296 → Marks b m
-    → verdict_at b m x t d ≡ full y → Marks (over (record_bytes t d) b m.used) (record { used = m.used + record_size d; last = At t })
+    → verdict_at b m x t d ≡ full y → Marks (over (record_bytes t d) b m.used) (record { used = m.used + record_size d; last = Some t })
 append_marks b m x t d h s k f =
     let u : ℕ = m.used in
     let went = sym (as_letter b m x t d k) ∙ f in
@@ -70,7 +69,7 @@ append_marks b m x t d h s k f =
     let r = entry t d i.event in
     let w = new_whole b u x t d h s went i.reads in
     let n : (behind start (records_of b u ++ (r ∷ []))).used ≡ u + record_size d = sym (whole_used w) in
-    let l = last_snoc Absent (records_of b u) r in
+    let l = last_snoc None (records_of b u) r in
     whole_opened w ∙ ap full (λ i. record { used = n i; last = l i })
 
 -- It goes on marking as long as nobody else writes the bytes in use

@@ -1,5 +1,5 @@
 -- What a torn write left: the longest good capture at the front is found, whatever follows it.
-use Rattle.std.specs.Prelude.{ℕ, ◌+◌, ◌-◌, ◌≤◌, ◌<◌, ◌≡◌, refl, List, [], ◌∷◌, ◌++◌, length, take, drop}
+use Rattle.std.specs.Prelude.{Option, None, ℕ, ◌+◌, ◌-◌, ◌≤◌, ◌<◌, ◌≡◌, refl, List, [], ◌∷◌, ◌++◌, length, take, drop}
 use Rattle.std.proofs.Common.{sym, ap, ◌∙◌, append_assoc, append-nil, length-append, length-take, take-append-drop, take_at, take-take, drop_at, drop-cons, get_or-take, arith}
 use Rattle.std.proofs.Math.Seq.{take-append-add}
 use Rattle.refusal.specs.Test.{clash}
@@ -14,8 +14,6 @@ use Rattle.order.specs.Order.{high_first, number_in}
 use Rattle.order.specs.Big.{big_bytes}
 use Rattle.order.specs.Numbers.{length_big, number_of_bytes}
 use Rattle.led.specs.Led.{length_in}
-use Rattle.summary.specs.declared.Seconds.{Seconds}
-use Rattle.summary.specs.declared.Seconds.TheVariants.{Absent}
 use Rattle.summary.specs.declared.Summary.{Summary}
 use Rattle.summary.specs.Summary.{last_from, most}
 use Rattle.capture.specs.declared.Kept.{Kept}
@@ -59,16 +57,16 @@ whole_first {b} {u} rs qs c =
     let f =
     front_bytes b (byte 0 b ∷ bytes_of rs) (bytes_of qs) u (1 + sizes_of rs) (omega (arith, length_bytes rs))
     (c.bytes ∙ ap (λ (l : List ℕ). byte 0 b ∷ l) (bytes_of_append rs qs)) in
-    record { known = c.known; there = f.1; bytes = f.2; good = (good_split (width_in b) Absent rs qs c.good).0 }
+    record { known = c.known; there = f.1; bytes = f.2; good = (good_split (width_in b) None rs qs c.good).0 }
 
 -- the records that are found in some bytes with a whole capture at their front: its own, and then those that stand behind it
 pub whole_more : {b : List ℕ} {n : ℕ} {rs : List Entry} (u : ℕ) → Whole b n rs → n ≤ u
-    → records_of b u ≡ rs ++ records_from (width_in b) (last_from Absent rs) (drop n (take u b))
+    → records_of b u ≡ rs ++ records_from (width_in b) (last_from None rs) (drop n (take u b))
 whole_more {b} {n} {rs} u c h =
     let y : List ℕ = drop n (take u b) in
     let e : take u b ≡ (byte 0 b ∷ bytes_of rs) ++ y =
     sym (take-append-drop n (take u b)) ∙ ap (λ (l : List ℕ). l ++ y) (take-take n u b h ∙ c.bytes) in
-    ap (records_in (width_in b)) e ∙ records_found (width_in b) Absent rs y c.good
+    ap (records_in (width_in b)) e ∙ records_found (width_in b) None rs y c.good
 
 -- what is kept of some bytes with a version byte
 prefix_kept : (b : List ℕ) (u : ℕ) → Versioned b u → prefixed b u ≡ full (kept (at_most most (records_of b u)))
@@ -98,7 +96,7 @@ module _ (b : List ℕ) (u : ℕ) (bytes : Bytes b) where
       let bt : Bytes t = bytes_drop 1 (take u b) (bytes_take u b bytes) in
       let z : List ℕ = drop (sizes_of (records_of b u)) t in
       let a : t ≡ bytes_of rs ++ (bytes_of qs ++ z) =
-      found_bytes (width_in b) Absent t bt ∙ ap (λ (l : List Entry). bytes_of l ++ z) e
+      found_bytes (width_in b) None t bt ∙ ap (λ (l : List Entry). bytes_of l ++ z) e
       ∙ ap (λ (l : List ℕ). l ++ z) (bytes_of_append rs qs) ∙ append_assoc (bytes_of rs) (bytes_of qs) z in
       let f =
       front_bytes b (byte 0 b ∷ bytes_of rs) (bytes_of qs ++ z) u (1 + sizes_of rs) (omega (arith, length_bytes rs))
@@ -107,7 +105,7 @@ module _ (b : List ℕ) (u : ℕ) (bytes : Bytes b) where
         known = v.known;
         there = f.1;
         bytes = f.2;
-        good = (good_split (width_in b) Absent rs qs (rw e at (found_good (width_in b) Absent t bt))).0;
+        good = (good_split (width_in b) None rs qs (rw e at (found_good (width_in b) None t bt))).0;
       }
 
   pub prefix_whole : {k : Kept} → prefixed b u ≡ full k → (opened b k.mark.used ≡ full k.mark) × (counted b k.mark.used ≡ full k.summary)
@@ -125,7 +123,7 @@ module _ (b : List ℕ) (u : ℕ) (bytes : Bytes b) where
       let c = counted_whole b n bytes e in
       let rs : List Entry = records_of b n in
       let v = longer u c.0 h in
-      let more : List Entry = records_from (width_in b) (last_from Absent rs) (drop n (take u b)) in
+      let more : List Entry = records_from (width_in b) (last_from None rs) (drop n (take u b)) in
       let a = at_most_split most (records_of b u) in
       let w = first_whole v (at_most most (records_of b u)) a.1 a.2 in
       let m = at_most_more most rs more c.1 in
@@ -149,7 +147,7 @@ length_torn t d y k hd h =
     ∙ take-take 2 k x h ∙ ap (take 2) two ∙ take_at (big_bytes 2 n) ((big_bytes 4 t ++ d) ++ y) 2 (length_big 2 n) in
     ap (number_in high_first 2) l ∙ number_of_bytes 2 n (omega arith)
 
-torn_none : (w : ℕ) (last : Seconds) (t : ℕ) (d y : List ℕ) (k : ℕ) → length d < 65532 → k < record_size d
+torn_none : (w : ℕ) (last : Option ℕ) (t : ℕ) (d y : List ℕ) (k : ℕ) → length d < 65532 → k < record_size d
     → records_from w last (take k (record_bytes t d ++ y)) ≡ []
 torn_none w last t d y k hd hk =
     let s : List ℕ = take k (record_bytes t d ++ y) in
@@ -169,7 +167,7 @@ torn_last {b} {n} u rs r c few h k =
     let x : List ℕ = byte 0 b ∷ bytes_of rs in
     let y : List ℕ = bytes_of (r ∷ []) in
     let a = whole_first rs (r ∷ []) c in
-    let g = (good_split (width_in b) Absent rs (r ∷ []) c.good).1.0 in
+    let g = (good_split (width_in b) None rs (r ∷ []) c.good).1.0 in
     let e : take n b ≡ x ++ y = c.bytes ∙ ap (λ (l : List ℕ). byte 0 b ∷ l) (bytes_of_append rs (r ∷ [])) in
     let j : u ≡ length x + (u - p) = omega (arith, length_bytes rs) in
     let f : take u b ≡ x ++ take (u - p) y =
@@ -177,9 +175,9 @@ torn_last {b} {n} u rs r c few h k =
     let d : drop p (take u b) ≡ take (u - p) y = ap (drop p) f ∙ drop_at x (take (u - p) y) p (omega (arith, length_bytes rs)) in
     let z : records_of b u ≡ rs =
     whole_more u a h
-    ∙ ap (λ (l : List ℕ). rs ++ records_from (width_in b) (last_from Absent rs) l) d
+    ∙ ap (λ (l : List ℕ). rs ++ records_from (width_in b) (last_from None rs) l) d
     ∙ ap (λ (l : List Entry). rs ++ l)
-    (torn_none (width_in b) (last_from Absent rs) r.seconds r.datagram [] (u - p) g.room
+    (torn_none (width_in b) (last_from None rs) r.seconds r.datagram [] (u - p) g.room
     (omega (arith, whole_used c, sizes_append rs (r ∷ []))))
     ∙ append-nil rs in
     prefix_kept b u (longer u a h) ∙ ap (λ (l : List Entry). full (kept l)) (ap (at_most most) z ∙ at_most_all most rs few)

@@ -1,7 +1,7 @@
 -- Whole captures: the version byte, and then the bytes of good records. The records of a capture determine its bytes, and its bytes its
 -- records; and each record is read at its place.
 use Prim.Native.Nat.{ℕ, ◌+◌, ◌-◌, ◌≤◌}
-use Rattle.std.specs.Prelude.{◌≡◌, true, length, get_or, leb}
+use Rattle.std.specs.Prelude.{None, ◌≡◌, true, length, get_or, leb}
 use Rattle.std.proofs.Math.Path.{refl, sym, ap}
 use Rattle.std.proofs.Common.{◌∙◌, length-append, length-drop, drop_of_length-le, take_at, drop-cons, length-take-le, get_or-take, arith}
 use mathlib.Core.List.{List, [], ◌∷◌, ◌++◌, append-nil}
@@ -15,7 +15,6 @@ use Rattle.frame.specs.Frame.{byte}
 use Rattle.event.specs.declared.Layout.{Layout}
 use Rattle.event.specs.Layout.{width_of}
 use Rattle.record.specs.Record.{Entry, record_at}
-use Rattle.summary.specs.declared.Seconds.TheVariants.{Absent}
 use Rattle.summary.specs.declared.Summary.{Summary}
 use Rattle.summary.specs.Summary.{last_from, counted_in, most}
 use Rattle.capture.specs.declared.Mark.{Mark}
@@ -60,7 +59,7 @@ pub record Whole (b : List ℕ) (u : ℕ) (rs : List Entry) : Type 0 where
   pub known : is_version (byte 0 b) ≡ true
   pub there : u ≤ length b
   pub bytes : take u b ≡ byte 0 b ∷ bytes_of rs
-  pub good : Good (width_in b) Absent rs
+  pub good : Good (width_in b) None rs
 
 module _ {b : List ℕ} {u : ℕ} {rs : List Entry} (c : Whole b u rs) where
   pub whole_used : u ≡ 1 + sizes_of rs
@@ -75,9 +74,9 @@ module _ {b : List ℕ} {u : ℕ} {rs : List Entry} (c : Whole b u rs) where
   -- its records are those that are found in it
   pub whole_records : records_of b u ≡ rs
   whole_records =
-      ap (records_from (width_in b) Absent) (ap (drop 1) c.bytes ∙ sym (append-nil (bytes_of rs)))
-      ∙ records_found (width_in b) Absent rs [] c.good
-      ∙ ap (λ (l : List Entry). rs ++ l) (records_end (width_in b) (last_from Absent rs) [] (omega arith))
+      ap (records_from (width_in b) None) (ap (drop 1) c.bytes ∙ sym (append-nil (bytes_of rs)))
+      ∙ records_found (width_in b) None rs [] c.good
+      ∙ ap (λ (l : List Entry). rs ++ l) (records_end (width_in b) (last_from None rs) [] (omega arith))
       ∙ append-nil rs
 
   whole_walked : walked (width_in b) (take u b) start ≡ behind start rs
@@ -107,9 +106,9 @@ module _ {b : List ℕ} {u : ℕ} {rs : List Entry} (c : Whole b u rs) where
       let n : sizes_of rs ≡ sizes_of ps + sizes_of (r ∷ qs) = ap sizes_of e ∙ sizes_append ps (r ∷ qs) in
       let t : take u b ≡ (byte 0 b ∷ bytes_of ps) ++ x = c.bytes ∙ ap (λ (l : List ℕ). byte 0 b ∷ l) (ap bytes_of e ∙ bytes_of_append ps (r ∷ qs)) in
       let d : drop p (take u b) ≡ x = ap (drop p) t ∙ drop_at (byte 0 b ∷ bytes_of ps) x p (omega (arith, length_bytes ps)) in
-      let g = (good_split (width_in b) Absent ps (r ∷ qs) (rw e at c.good)).1.0 in
+      let g = (good_split (width_in b) None ps (r ∷ qs) (rw e at c.good)).1.0 in
       let a : record_at (width_in b) x ≡ full r =
-      (next_is (width_in b) (last_from Absent ps) x r (next_put (width_in b) (last_from Absent ps) r (bytes_of qs) g)).0 in
+      (next_is (width_in b) (last_from None ps) x r (next_put (width_in b) (last_from None ps) r (bytes_of qs) g)).0 in
       rw (whole_front, ne_eqb p u (λ z. omega (arith, whole_used, n)), le-leb 1 p (omega arith), d, a)
 
 -- SOME BYTES that open are a whole capture of the records that are found in them, and their mark is behind these
@@ -129,10 +128,10 @@ module _ (b : List ℕ) (u : ℕ) (bytes : Bytes b) where
         bytes =
             d ∙ ap (λ (x : ℕ). x ∷ t) f
             ∙ ap (λ (x : List ℕ). byte 0 b ∷ x)
-            (found_bytes (width_in b) Absent t (bytes_drop 1 s (bytes_take u b bytes))
+            (found_bytes (width_in b) None t (bytes_drop 1 s (bytes_take u b bytes))
             ∙ ap (λ (x : List ℕ). bytes_of rs ++ x) (drop_of_length-le t {i = sizes_of rs} (omega (arith, n, l, k)))
             ∙ append-nil (bytes_of rs));
-        good = found_good (width_in b) Absent t (bytes_drop 1 s (bytes_take u b bytes));
+        good = found_good (width_in b) None t (bytes_drop 1 s (bytes_take u b bytes));
       }
 
   pub opened_whole : {m : Mark} → opened b u ≡ full m → Whole b u (records_of b u) × (m ≡ behind start (records_of b u))
@@ -166,7 +165,7 @@ module _ (b : List ℕ) (u : ℕ) (bytes : Bytes b) where
           (rw f.2 at y)
 
 -- conversely a version and good records make a capture, whatever stands behind them
-pub makes_whole : (v : ℕ) (rs : List Entry) (s : List ℕ) → is_version v ≡ true → Good (width_by v) Absent rs
+pub makes_whole : (v : ℕ) (rs : List Entry) (s : List ℕ) → is_version v ≡ true → Good (width_by v) None rs
     → Whole ((v ∷ bytes_of rs) ++ s) (1 + sizes_of rs) rs
 makes_whole v rs s h g =
     record {
@@ -176,7 +175,7 @@ makes_whole v rs s h g =
       good = g;
     }
 
-pub made_opens : (v : ℕ) (rs : List Entry) (s : List ℕ) → is_version v ≡ true → Good (width_by v) Absent rs
+pub made_opens : (v : ℕ) (rs : List Entry) (s : List ℕ) → is_version v ≡ true → Good (width_by v) None rs
     → opened ((v ∷ bytes_of rs) ++ s) (1 + sizes_of rs) ≡ full (behind start rs)
 made_opens v rs s h g = whole_opened (makes_whole v rs s h g)
 

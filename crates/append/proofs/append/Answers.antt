@@ -1,18 +1,16 @@
-use Prim.Native.Nat.{ℕ}
-use mathlib.Core.Path.{sym, ap, ◌∙◌}
-use mathlib.Core.List.{List}
-use lib.Seq.{take-length}
-use Rattle.refusal.specs.Answer.{told}
-use Rattle.capture.specs.Capture.{opened, said_opening}
+use Rattle.std.proofs.Common.{rules, ◌≡◌, Ok, Err, sym}
 use Rattle.append.specs.Judged.{letter_refused, letter_marked}
 use Rattle.append.proofs.append.Goals as goal
 
-pub returns-in-Refused : goal.returns-in-Refused
-returns-in-Refused c =
-    let a = c.args in
-    letter_refused _ _ _ _ _ _ (ap (λ (b : List ℕ). opened b a.used) (sym (take-length a.buf.now)) ∙ told said_opening c.open-o.result c.open-o.ensures c.in-Refused.is)
+pub returns-in_err-mark : goal.returns-in_err-mark
+returns-in_err-mark c =
+    let z : c.from_residual.result ≡ Err c.in_err-mark.field-0.0 = search rules in
+    rw z (letter_refused _ _ _ _ _ _ (sym c.in_err-mark.ensures))
 
-pub returns-in-Open : goal.returns-in-Open
-returns-in-Open c =
-    let a = c.args in
-    letter_marked a.buf.now a.used a.x a.seconds a.datagram.now _ c.append_at-f.result _ (ap (λ (b : List ℕ). opened b a.used) (sym (take-length a.buf.now)) ∙ told said_opening c.open-o.result c.open-o.ensures c.in-Open.is) c.append_at-f.ensures
+pub returns-in_err-kept : goal.returns-in_err-kept
+returns-in_err-kept c =
+    let z : c.from_residual-in_err-kept.result ≡ Err c.in_err-kept.field-0.0 = search rules in
+    rw z (letter_marked _ _ _ _ _ _ (Err c.in_err-kept.field-0.0) _ (sym c.in_ok-mark.ensures) c.in_err-kept.ensures)
+
+pub returns : goal.returns
+returns c = letter_marked _ _ _ _ _ _ (Ok c.in_ok-kept.kept) _ (sym c.in_ok-mark.ensures) c.in_ok-kept.ensures

@@ -7,6 +7,3 @@ use Rattle.bench_book.proofs.entries.Given as goal
 
 abbrev pub invariant-loop-i : goal.invariant-loop-i
 invariant-loop-i l = (l.i ≤ 256) × (length l.out ≡ length l.initial.out) × Rest (entries_texts 256 0 l.asked l.ticks) l.initial.out l.initial.e (entries_texts (256 - l.i) l.i l.asked l.ticks) l.out l.e
-
-abbrev pub decreases-loop-i : goal.decreases-loop-i
-decreases-loop-i l = 256 - l.i

@@ -1,8 +1,6 @@
-use Prim.Native.Nat.{◌-◌}
-use lib.ListN.{length-set}
+use Rattle.std.proofs.Common.{rules, length-set}
 use Rattle.bench_capture.specs.Carried.{counts_at}
 use Rattle.bench_capture.specs.Pieces.{counts_turn}
-use borrow.Author.Rules.{rules}
 use Rattle.bench_capture.proofs.counts_in.Goals as goal
 
 pub loop-i-init : goal.loop-i-init
@@ -13,4 +11,4 @@ pub loop-i-preserved : goal.loop-i-preserved
 loop-i-preserved c =
     let l = c.loop-i in
     let s = c.args.s.now in
-    (search rules, simp length-set l.invariant.1, rw c.number_at.ensures (counts_turn l.i s l.counts (search rules) l.invariant.2))
+    (simp length-set l.invariant.0, rw c.number_at.ensures (counts_turn l.i s l.counts (search rules) l.invariant.1))

@@ -3,9 +3,4 @@ use Rattle.bench_clock.proofs.time.Goals as goal
 
 pub returns : goal.returns
 returns c =
-    let z = c in
-    let y = z in
-    let x = y in
-    let w = x in
-    let v = w in
-    puts_next v.decimal-e.ensures (puts_next w.byte-f.ensures (puts_next x.decimal-g.ensures (puts_next y.byte-h.ensures (puts_next z.decimal.ensures (puts_none _ _)))))
+    puts_next (rw c.from.ensures at c.decimal-e.ensures) (puts_next c.byte-f.ensures (puts_next (rw c.from-2.ensures at c.decimal-g.ensures) (puts_next c.byte-h.ensures (puts_next (rw c.from-3.ensures at c.decimal.ensures) (puts_none _ _)))))

@@ -1,9 +1,9 @@
-use Rattle.stream.specs.declared.Step.TheVariants.{More, Item}
+use Rattle.std.specs.Prelude.{Some, None}
 use Rattle.bench_lines.specs.Shown.{step_said, shown_of}
 use Rattle.bench_lines.proofs.step.Goals as goal
 
-pub returns-in-More : goal.returns-in-More
-returns-in-More c = rw c.in-More.is (record { value = c.plain.ensures; says = shown_of c.plain.ensures (step_said More) })
+pub returns-in-None : goal.returns-in-None
+returns-in-None c = rw c.in-None.is (record { value = c.plain.ensures; says = shown_of c.plain.ensures (step_said None) })
 
-pub returns-in-Item : goal.returns-in-Item
-returns-in-Item c = rw c.in-Item.is (record { value = c.plain-in-Item.ensures; says = shown_of c.plain-in-Item.ensures (step_said (Item c.in-Item.k c.in-Item.m c.in-Item.d)) })
+pub returns-in-Some : goal.returns-in-Some
+returns-in-Some c = rw c.in-Some.is (record { value = c.plain-in-Some.ensures; says = shown_of c.plain-in-Some.ensures (step_said (Some c.in-Some.x)) })

@@ -1,9 +1,5 @@
-use Prim.Native.Nat.{◌-◌, ◌≤◌}
 use Rattle.book.specs.Old.{Looked}
 use Rattle.book.proofs.give_up.Given as goal
 
 abbrev pub invariant-loop-n : goal.invariant-loop-n
-invariant-loop-n l = (l.n ≤ 256) × Looked l.initial.asked l.ticks l.clock l.limit l.n l.asked l.count
-
-abbrev pub decreases-loop-n : goal.decreases-loop-n
-decreases-loop-n l = 256 - l.n
+invariant-loop-n l = Looked l.initial.asked l.ticks l.clock l.limit l.n l.asked l.count

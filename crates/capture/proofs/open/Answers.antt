@@ -1,20 +1,17 @@
-use lib.ListN.{length-take}
-use native.Mathlib.Omega.{arith}
-use Rattle.refusal.specs.Answer.{told}
-use Rattle.capture.specs.Capture.{said_front}
+use Rattle.std.proofs.Common.{rules, ◌≡◌, Err, sym, length-take, arith}
 use Rattle.capture.specs.Says.{front_used, opened_refused, opened_short, opened_open}
 use Rattle.capture.proofs.open.Goals as goal
 
 pub walk-m-requires : goal.walk-m-requires
-walk-m-requires c =
-    let a = c.args in
-    simp length-take (omega (arith, front_used a.buf.now a.used _ (told said_front c.front-f.result c.front-f.ensures c.in-Of.is)))
+walk-m-requires c = simp length-take (omega (arith, front_used c.args.buf.now c.args.used _ (sym c.in_ok-layout.ensures)))
 
-pub returns-in-Refused : goal.returns-in-Refused
-returns-in-Refused c = opened_refused _ _ _ (told said_front c.front-f.result c.front-f.ensures c.in-Refused.is)
+pub returns-in_err-layout : goal.returns-in_err-layout
+returns-in_err-layout c =
+    let z : c.from_residual.result ≡ Err c.in_err-layout.field-0.0 = search rules in
+    rw z (opened_refused _ _ _ (sym c.in_err-layout.ensures))
 
 pub returns-then-m-used : goal.returns-then-m-used
-returns-then-m-used c = opened_short _ _ _ c.walk-m.result (told said_front c.front-f.result c.front-f.ensures c.in-Of.is) c.walk-m.ensures (omega arith)
+returns-then-m-used c = opened_short _ _ _ c.walk-m.result (sym c.in_ok-layout.ensures) c.walk-m.ensures (omega arith)
 
-pub returns-else-m-used : goal.returns-else-m-used
-returns-else-m-used c = opened_open _ _ _ c.walk-m.result (told said_front c.front-f.result c.front-f.ensures c.in-Of.is) c.walk-m.ensures (omega arith)
+pub returns : goal.returns
+returns c = opened_open _ _ _ c.walk-m.result (sym c.in_ok-layout.ensures) c.walk-m.ensures (omega arith)

@@ -1,17 +1,14 @@
-use Prim.Native.Nat.{◌-◌}
-use mathlib.Core.Path.{sym}
-use Rattle.refusal.specs.Answer.{told}
-use Rattle.record.specs.Record.{said}
+use Rattle.std.proofs.Common.{arith}
 use Rattle.capture.specs.Says.{stands, stands_bad}
 use Rattle.capture.specs.Walk.{records_stop}
-use Rattle.capture.specs.Reached.{reached_stops, reached_end, reached_step}
+use Rattle.capture.specs.Reached.{reached_stops, reached_step, step_room}
 use Rattle.capture.proofs.walk.Goals as goal
 
-pub returns-in_default : goal.returns-in_default
-returns-in_default c = reached_stops c.loop-at.invariant (records_stop _ _ _ _ (stands_bad _ _ _ (sym (told said c.follow-r.result c.follow-r.ensures c.in_default.is))))
+pub loop-x-preserved : goal.loop-x-preserved
+loop-x-preserved c = reached_step c.loop-x.invariant (stands _ _ c.in-Some.x c.in-Some.ensures)
 
-pub loop-at-preserved : goal.loop-at-preserved
-loop-at-preserved c = reached_step c.loop-at.invariant (stands _ _ c.in-Good.x (sym (told said c.follow-r.result c.follow-r.ensures c.in-Good.is)))
+pub loop-x-smaller : goal.loop-x-smaller
+loop-x-smaller c = omega (arith, step_room c.loop-x.invariant (stands _ _ c.in-Some.x c.in-Some.ensures))
 
 pub returns : goal.returns
-returns c = reached_stops c.loop-at.invariant (reached_end _ _ _ _ c.loop-at-test.false)
+returns c = reached_stops c.loop-x.invariant (records_stop _ _ _ _ (stands_bad _ _ _ c.in_default.ensures))

@@ -1,35 +1,19 @@
-use mathlib.Core.Path.{refl, sym, ap, ◌∙◌}
-use mathlib.Core.List.{List}
-use Prim.Native.Nat.{◌-◌}
-use native.Mathlib.Numerals.{add-one}
-use native.Mathlib.Omega.{arith}
-use lib.ListN.{get_or, drop_of_length-le}
-use borrow.Author.Rules.{rules}
-use borrow.Author.Tests.{eq-eqb, ne_eqb}
-use Rattle.error.specs.Error.{Entry, table, look, name_of}
-use Rattle.error.proofs.Table.{codes, turn}
+use Rattle.std.proofs.Common.{sym, ap, ◌∙◌, refl, eq-eqb, ne_eqb, drop_of_length-le}
+use Rattle.std.specs.Prelude.{ℕ, List, get_or}
+use Rattle.error.specs.Error.{look, name_of, table}
+use Rattle.error.proofs.Table.{turn}
 use Rattle.error.proofs.name_of.Goals as goal
 
-pub loop-i-init : goal.loop-i-init
+pub loop-c-init : goal.loop-c-init
 unfolding name_of
-loop-i-init c = (search rules, refl)
+loop-c-init c = refl
 
-pub returns-then-i-code : goal.returns-then-i-code
-returns-then-i-code c =
-    let at = c in
-    let x = at.args.code in
-    let i = at.loop-i.i in
-    rw (eq-eqb (get_or codes i 0) x c.if-i-code.true) at (sym (turn i x c.loop-i-test.true)) ∙ at.loop-i.invariant.1
+pub returns-then-c-code : goal.returns-then-c-code
+returns-then-c-code c = rw (eq-eqb (get_or table c.loop-c.c-index (0, 0)).0 c.args.code c.if-c-code.true) at (sym (turn table c.loop-c.c-index c.args.code c.loop-c-test.true)) ∙ c.loop-c.invariant
 
-pub loop-i-preserved : goal.loop-i-preserved
-loop-i-preserved c =
-    let at = c in
-    let x = at.args.code in
-    let i = at.loop-i.i in
-    (omega arith, rw add-one (rw (ne_eqb (get_or codes i 0) x c.if-i-code.false) at (sym (turn i x c.loop-i-test.true)) ∙ at.loop-i.invariant.1))
+pub loop-c-preserved : goal.loop-c-preserved
+loop-c-preserved c = rw (ne_eqb (get_or table c.loop-c.c-index (0, 0)).0 c.args.code c.if-c-code.false) at (sym (turn table c.loop-c.c-index c.args.code c.loop-c-test.true)) ∙ c.loop-c.invariant
 
 pub returns : goal.returns
 unfolding look
-returns c =
-    let at = c in
-    ap (λ (l : List Entry). look l at.args.code) (sym (drop_of_length-le table c.loop-i-test.false)) ∙ at.loop-i.invariant.1
+returns c = ap (λ (l : List (ℕ × ℕ)). look l c.args.code) (sym (drop_of_length-le table c.loop-c-test.false)) ∙ c.loop-c.invariant

@@ -3,6 +3,4 @@ use Rattle.figures.proofs.hex_colon.Goals as goal
 
 pub returns : goal.returns
 returns c =
-    let z = c in
-    let y = z in
-    puts_next y.hex-e.ensures (puts_next z.word.ensures (puts_none _ _))
+    puts_next c.hex-e.ensures (puts_next c.word.ensures (puts_none _ _))

@@ -1,14 +1,15 @@
-use borrow.Author.Rules.{rules}
 use mathlib.Core.Path.{◌∙◌}
+use native.Mathlib.Omega.{arith}
 use Rattle.filter_plan.specs.Stepped.{hidden_absent, hidden_there}
 use Rattle.filter_plan.proofs.hides.Goals as goal
 
-pub returns-then-t-k : goal.returns-then-t-k
-returns-then-t-k c =
-    let z = c in
-    hidden_absent z.args.t z.requires z.args.address z.args.instance z.args.kind z.place-k.result z.place-k.ensures c.if-t-k.true
+pub returns-in-Some : goal.returns-in-Some
+returns-in-Some c =
+    let a = c.args in
+    let s = c.in-Some in
+    c.names.ensures ∙ hidden_there a.t.now c.requires a.address a.instance a.kind s.k s.ensures.told s.ensures.within
 
-pub returns : goal.returns
-returns c =
-    let z = c in
-    c.names.ensures ∙ hidden_there z.args.t z.requires z.args.address z.args.instance z.args.kind z.place-k.result z.place-k.ensures (search rules)
+pub returns-in-None : goal.returns-in-None
+returns-in-None c =
+    let a = c.args in
+    hidden_absent a.t.now c.requires a.address a.instance a.kind a.t.now.count c.in-None.ensures.told (omega arith)

@@ -3,6 +3,4 @@ use Rattle.filter_text.proofs.filter_line.Goals as goal
 
 pub returns : goal.returns
 returns c =
-    let z = c in
-    let y = z in
-    puts_append y.filter-a.ensures (puts_next z.byte.ensures (puts_none _ _))
+    puts_append c.filter-a.ensures (puts_next c.byte.ensures (puts_none _ _))

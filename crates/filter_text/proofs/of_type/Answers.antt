@@ -4,12 +4,8 @@ use Rattle.filter_text.proofs.of_type.Goals as goal
 
 pub returns-then-t-gt9 : goal.returns-then-t-gt9
 returns-then-t-gt9 c =
-    let z = c in
-    rw (lt-leb _ 9 c.if-t-gt9.true) (puts_next z.decimal-a.ensures (puts_none _ _))
+    rw (lt-leb _ 9 c.if-t-gt9.true) (puts_next c.decimal-a.ensures (puts_none _ _))
 
 pub returns : goal.returns
 returns c =
-    let z = c in
-    let y = z in
-    let x = y in
-    rw (le-leb _ 9 y.if-t-gt9.false) (puts_next x.decimal-a.ensures (puts_next y.word-b.ensures (puts_next z.put.ensures (puts_none _ _))))
+    rw (le-leb _ 9 c.if-t-gt9.false) (puts_next c.decimal-a.ensures (puts_next c.word-b.ensures (puts_next c.put.ensures (puts_none _ _))))

@@ -3,7 +3,4 @@ use Rattle.filter_text.proofs.slip.Goals as goal
 
 pub returns : goal.returns
 returns c =
-    let z = c in
-    let y = z in
-    let x = y in
-    puts_append (puts_append (puts_next x.word-a.ensures (puts_none _ _)) y.filter-b.ensures) (puts_next z.word.ensures (puts_none _ _))
+    puts_append (puts_append (puts_next c.word-a.ensures (puts_none _ _)) c.filter-b.ensures) (puts_next c.word.ensures (puts_none _ _))

@@ -7,7 +7,4 @@ use Rattle.filter_text.specs.Putting.{left_from}
 use Rattle.filter_text.proofs.types.Given as goal
 
 abbrev pub invariant-loop-t : goal.invariant-loop-t
-invariant-loop-t l = (l.t ≤ 16) × (length l.out ≡ length l.initial.out) × Rest (types_texts (types_of l.mask)) l.initial.out l.at (left_from l.mask l.some l.t) l.out l.e
-
-abbrev pub decreases-loop-t : goal.decreases-loop-t
-decreases-loop-t l = 16 - l.t
+invariant-loop-t l = (length l.out ≡ length l.initial.out) × Rest (types_texts (types_of l.mask)) l.initial.out l.at (left_from l.mask l.some l.t) l.out l.e

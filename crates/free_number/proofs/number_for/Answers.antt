@@ -10,31 +10,16 @@ returns-then-not-known c = rw (← c.known.ensures, c.if-not-known.true)
 pub returns-then-retired : goal.returns-then-retired
 unfolding number_for
 returns-then-retired c =
-    let at = c in
-    rw (← at.known.ensures, at.if-not-known.false, ← c.retired.ensures, c.if-retired.true)
+    rw (← c.known.ensures, c.if-not-known.false, ← c.retired.ensures, c.if-retired.true)
 
 pub returns-then-asked-next-eq-VACANT : goal.returns-then-asked-next-eq-VACANT
 unfolding number_for
 returns-then-asked-next-eq-VACANT c =
-    let here = c in
-    let at = here in
-    rw (
-      ← at.known.ensures,
-      at.if-not-known.false,
-      ← here.retired.ensures,
-      here.if-retired.false,
-    )
+    rw (← c.known.ensures, c.if-not-known.false, ← c.retired.ensures, c.if-retired.false)
     (search (next_vacant, rules))
 
 pub returns : goal.returns
 unfolding number_for
 returns c =
-    let here = c in
-    let at = here in
-    rw (
-      ← at.known.ensures,
-      at.if-not-known.false,
-      ← here.retired.ensures,
-      here.if-retired.false,
-    )
+    rw (← c.known.ensures, c.if-not-known.false, ← c.retired.ensures, c.if-retired.false)
     (search rules)

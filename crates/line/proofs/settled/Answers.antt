@@ -1,33 +1,27 @@
-use mathlib.Core.Bool.{true}
-use mathlib.Core.Path.{◌≡◌, sym, ◌∙◌}
+use mathlib.Core.Path.{sym, ◌∙◌}
 use borrow.Author.Rules.{rules}
 use Rattle.refusal.specs.Test.{tests}
-use Rattle.frame.specs.Frame.{byte}
-use Rattle.extent.specs.Line.{is_lead}
 use Rattle.line.specs.Cases.{settle_noise, extent_step}
 use Rattle.line.specs.Rule.{settle}
 use Rattle.line.proofs.settled.Goals as goal
 
-pub returns-then-s-lt1 : goal.returns-then-s-lt1
+pub returns-then-is_empty : goal.returns-then-is_empty
 unfolding settle
-returns-then-s-lt1 c = search (tests, rules)
+returns-then-is_empty c = search (tests, rules)
 
 pub returns-then-not-leads : goal.returns-then-not-leads
 returns-then-not-leads c =
     let a = c.args in
-    rw (settle_noise a.line a.s.now c.if-s-lt1.false (sym c.leads.ensures ∙ c.if-not-leads.true))
+    c.one_byte.ensures ∙ rw (settle_noise a.line a.s.now (search rules) (sym c.leads.ensures ∙ c.if-not-leads.true))
 
 pub returns-in-Wait : goal.returns-in-Wait
 returns-in-Wait c =
-    let led : is_lead c.args.line (byte 0 c.args.s.now) ≡ true = sym c.leads.ensures ∙ c.if-not-leads.false in
-    extent_step _ _ _ _ c.if-s-lt1.false (led) c.extent_of-told.ensures (rw c.in-Wait.is)
+    extent_step _ _ _ _ (search rules) (sym c.leads.ensures ∙ c.if-not-leads.false) c.extent_of.ensures (rw c.in-Wait.is)
 
 pub returns-in-Bad : goal.returns-in-Bad
 returns-in-Bad c =
-    let led : is_lead c.args.line (byte 0 c.args.s.now) ≡ true = sym c.leads.ensures ∙ c.if-not-leads.false in
-    extent_step _ _ _ _ c.if-s-lt1.false (led) c.extent_of-told.ensures (rw c.in-Bad.is)
+    extent_step _ _ _ _ (search rules) (sym c.leads.ensures ∙ c.if-not-leads.false) c.extent_of.ensures (rw c.in-Bad.is (cc))
 
 pub returns-in-Frame : goal.returns-in-Frame
 returns-in-Frame c =
-    let led : is_lead c.args.line (byte 0 c.args.s.now) ≡ true = sym c.leads.ensures ∙ c.if-not-leads.false in
-    extent_step _ _ _ _ c.if-s-lt1.false (led) c.extent_of-told.ensures (rw c.in-Frame.is c.frame.ensures)
+    extent_step _ _ _ _ (search rules) (sym c.leads.ensures ∙ c.if-not-leads.false) c.extent_of.ensures (rw c.in-Frame.is c.frame.ensures)

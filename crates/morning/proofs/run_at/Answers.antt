@@ -1,14 +1,14 @@
-use mathlib.Core.Path.{sym, ◌∙◌}
-use Rattle.refusal.specs.Answer.{told}
-use Rattle.capture.specs.Capture.{said_front}
+use Rattle.std.proofs.Common.{rules, ◌≡◌, Ok, Err, sym, ◌∙◌}
 use Rattle.morning.proofs.Ways.{at_capture, at_cut, at_all}
 use Rattle.morning.proofs.run_at.Goals as goal
 
+pub returns-in_err-front : goal.returns-in_err-front
+returns-in_err-front c =
+    let z : c.from_residual.result ≡ Err c.in_err-front.field-0.0 = search rules in
+    rw z (at_capture _ _ _ _ _ _ (sym c.in_err-front.ensures))
+
 pub returns-then-not-is_whole : goal.returns-then-not-is_whole
-returns-then-not-is_whole c = at_cut _ _ _ _ _ _ _ (told said_front c.front-f.result c.front-f.ensures c.in-Of.is) (sym c.is_whole.ensures ∙ c.if-not-is_whole.true) c.refuse_at-then-not-is_whole.ensures
+returns-then-not-is_whole c = at_cut _ _ _ _ _ _ (sym c.in_ok-front.ensures) (sym c.is_whole.ensures ∙ c.if-not-is_whole.true)
 
-pub returns-in-Refused : goal.returns-in-Refused
-returns-in-Refused c = at_capture _ _ _ _ _ _ _ (told said_front c.front-f.result c.front-f.ensures c.in-Refused.is) c.refuse_at.ensures
-
-pub returns-else-not-is_whole : goal.returns-else-not-is_whole
-returns-else-not-is_whole c = at_all _ _ _ _ _ _ _ _ (told said_front c.front-f.result c.front-f.ensures c.in-Of.is) (sym c.is_whole.ensures ∙ c.if-not-is_whole.false) c.append_all.ensures
+pub returns : goal.returns
+returns c = at_all _ _ _ _ _ (Ok c.append_all.result) _ _ (sym c.in_ok-front.ensures) (sym c.is_whole.ensures ∙ c.if-not-is_whole.false) c.append_all.ensures

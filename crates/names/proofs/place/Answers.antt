@@ -1,24 +1,14 @@
-use Prim.Native.Nat.{◌-◌}
-use lib.ListN.{get_or}
-use native.Mathlib.Numerals.{add-one}
-use native.Mathlib.Omega.{arith}
-use borrow.Author.Tests.{eq-eqb, ne_eqb}
-use Rattle.names.specs.Places.{keys, place_turn, place_end}
+use borrow.Author.Rules.{rules}
+use borrow.Author.Tests.{tests}
+use mathlib.Core.Path.{◌≡◌, sym, ap, ◌∙◌}
+use mathlib.Core.Bool.{true, false}
+use Rattle.std.specs.Prelude.{ℕ, eqb}
+use Rattle.std.proofs.lemmas.Iterator.{YieldsList-from_slice, IsFirst-from_position}
+use Rattle.names.specs.Places.{keys, place_in, place_first}
 use Rattle.names.proofs.place.Goals as goal
 
-pub returns-then-k-key : goal.returns-then-k-key
-returns-then-k-key c =
-    let at = c in
-    let x = at.args.key in
-    let i = at.loop-k.k in
-    omega (arith, at.loop-k.invariant.1, rw (eq-eqb (get_or keys i 0) x c.if-k-key.true) at (place_turn x keys i c.loop-k-test.true))
-
-pub loop-k-preserved : goal.loop-k-preserved
-loop-k-preserved c =
-    let at = c in
-    let x = at.args.key in
-    let i = at.loop-k.k in
-    (omega arith, rw add-one (omega (arith, at.loop-k.invariant.1, rw (ne_eqb (get_or keys i 0) x c.if-k-key.false) at (place_turn x keys i c.loop-k-test.true))))
-
-pub returns : goal.returns
-returns c = omega (arith, c.loop-k.invariant.1, place_end c.args.key keys c.loop-k.k c.loop-k-test.false)
+pub returns-clause-told : goal.returns-clause-told
+returns-clause-told c =
+    let k = c.from_be_bytes-key in
+    let p = IsFirst-from_position _ _ _ (λ x. eqb x k.result ≡ true) (λ x. eqb x k.result ≡ false) c.position.ensures.ran (YieldsList-from_slice keys cc) (λ x q h. search (rules, tests)) (λ x q h. search (rules, tests)) in
+    sym (place_first k.result keys c.position.result p) ∙ ap (λ (x : ℕ). place_in x keys) k.ensures

@@ -3,8 +3,4 @@ use Rattle.plan_told.proofs.adds.Goals as goal
 
 pub returns : goal.returns
 returns c =
-    let z = c in
-    let y = z in
-    let x = y in
-    let w = x in
-    puts_append (puts_next w.word-a.ensures (puts_next x.decimal-b.ensures (puts_next y.word-c.ensures (puts_none _ _)))) z.filter_line.ensures
+    puts_append (puts_next c.word-a.ensures (puts_next c.decimal-b.ensures (puts_next c.word-c.ensures (puts_none _ _)))) c.filter_line.ensures

@@ -3,11 +3,5 @@ use Rattle.plan_told.proofs.bad.Goals as goal
 
 pub returns : goal.returns
 returns c =
-    let z = c in
-    let y = z in
-    let x = y in
-    let w = x in
-    let v = w in
-    let u = v in
-    let front = puts_append (puts_append (puts_next u.word-a.ensures (puts_none _ _)) v.placed-b.ensures) w.numbered-c.ensures in
-    puts_append (puts_append (puts_append front x.reason-d.ensures) (puts_next y.byte-e.ensures (puts_none _ _))) z.too_many.ensures
+    let front = puts_append (puts_append (puts_next c.word-a.ensures (puts_none _ _)) c.placed-b.ensures) c.numbered-c.ensures in
+    puts_append (puts_append (puts_append front c.reason-d.ensures) (puts_next c.byte-e.ensures (puts_none _ _))) c.too_many.ensures

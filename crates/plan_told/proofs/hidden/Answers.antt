@@ -3,10 +3,5 @@ use Rattle.plan_told.proofs.hidden.Goals as goal
 
 pub returns : goal.returns
 returns c =
-    let z = c in
-    let y = z in
-    let x = y in
-    let w = x in
-    let v = w in
-    let line = puts_append (puts_append v.wanted-a.ensures (puts_next w.word-b.ensures (puts_none _ _))) x.placed-c.ensures in
-    puts_append (puts_append line (puts_next y.byte-d.ensures (puts_none _ _))) z.since.ensures
+    let line = puts_append (puts_append c.wanted-a.ensures (puts_next c.word-b.ensures (puts_none _ _))) c.placed-c.ensures in
+    puts_append (puts_append line (puts_next c.byte-d.ensures (puts_none _ _))) c.since.ensures

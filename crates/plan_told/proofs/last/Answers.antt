@@ -1,4 +1,3 @@
-use Prim.Native.Nat.{◌-◌}
 use Rattle.plan_told.specs.Putting.{last_none}
 use Rattle.plan_told.proofs.last.Goals as goal
 

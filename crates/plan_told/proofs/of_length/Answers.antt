@@ -3,7 +3,4 @@ use Rattle.plan_told.proofs.of_length.Goals as goal
 
 pub returns : goal.returns
 returns c =
-    let z = c in
-    let y = z in
-    let x = y in
-    rw (← y.byte_at.ensures) (puts_next x.word-a.ensures (puts_next y.hex-b.ensures (puts_next z.word.ensures (puts_none _ _))))
+    rw (← c.byte_at.ensures) (puts_next c.word-a.ensures (puts_next c.hex-b.ensures (puts_next c.word.ensures (puts_none _ _))))

@@ -3,9 +3,4 @@ use Rattle.plan_told.proofs.other.Goals as goal
 
 pub returns : goal.returns
 returns c =
-    let z = c in
-    let y = z in
-    let x = y in
-    let w = x in
-    let v = w in
-    rw (← v.byte_at-command.ensures) (puts_next v.word-a.ensures (puts_next w.hex-b.ensures (puts_next x.word-c.ensures (puts_next y.put-d.ensures (puts_next z.word.ensures (puts_none _ _))))))
+    rw (← c.byte_at-command.ensures) (puts_next c.word-a.ensures (puts_next c.hex-b.ensures (puts_next c.word-c.ensures (puts_next c.put-d.ensures (puts_next c.word.ensures (puts_none _ _))))))

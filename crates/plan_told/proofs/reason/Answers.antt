@@ -1,63 +1,48 @@
-use borrow.Author.Tests.{eq-eqb, ne_eqb}
 use Rattle.lent.specs.Behind.{puts_next, puts_none}
+use Rattle.refusal.specs.declared.Refusal.TheVariants.{TooShort, BadLead, UnknownCommand, BadLengthByte, BadLength, BadSum, BadArgument, NotAFilter, FiltersFull}
 use Rattle.plan_told.specs.Told.{reason_texts}
+use Rattle.plan_told.specs.Putting.{number_not}
 use Rattle.plan_told.proofs.reason.Goals as goal
 
-pub returns-then-number-eq1 : goal.returns-then-number-eq1
+pub returns-in-TooShort : goal.returns-in-TooShort
 unfolding reason_texts
-returns-then-number-eq1 c =
-    let z = c in
-    rw (eq-eqb _ 1 z.if-number-eq1.true) (puts_next z.word.ensures (puts_none _ _))
+returns-in-TooShort c = rw c.in-TooShort.is (puts_next c.word.ensures (puts_none _ _))
 
-pub returns-then-number-eq2 : goal.returns-then-number-eq2
+pub returns-in-BadLead : goal.returns-in-BadLead
 unfolding reason_texts
-returns-then-number-eq2 c =
-    let z = c in
-    rw (ne_eqb _ 1 z.if-number-eq1.false, eq-eqb _ 2 z.if-number-eq2.true) (puts_next z.word-then-number-eq2.ensures (puts_none _ _))
+returns-in-BadLead c = rw c.in-BadLead.is (puts_next c.word-in-BadLead.ensures (puts_none _ _))
 
-pub returns-then-number-eq3 : goal.returns-then-number-eq3
+pub returns-in-UnknownCommand : goal.returns-in-UnknownCommand
 unfolding reason_texts
-returns-then-number-eq3 c =
-    let z = c in
-    rw (ne_eqb _ 1 z.if-number-eq1.false, ne_eqb _ 2 z.if-number-eq2.false, eq-eqb _ 3 z.if-number-eq3.true) z.unknown.ensures
+returns-in-UnknownCommand c = rw c.in-UnknownCommand.is c.unknown.ensures
 
-pub returns-then-number-eq4 : goal.returns-then-number-eq4
+pub returns-in-BadSum : goal.returns-in-BadSum
 unfolding reason_texts
-returns-then-number-eq4 c =
-    let z = c in
-    rw (ne_eqb _ 1 z.if-number-eq1.false, ne_eqb _ 2 z.if-number-eq2.false, ne_eqb _ 3 z.if-number-eq3.false, eq-eqb _ 4 z.if-number-eq4.true) z.of_length.ensures
+returns-in-BadSum c = rw c.in-BadSum.is c.of_sum.ensures
 
-pub returns-then-number-eq5 : goal.returns-then-number-eq5
+pub returns-in-BadArgument : goal.returns-in-BadArgument
 unfolding reason_texts
-returns-then-number-eq5 c =
-    let z = c in
-    rw (ne_eqb _ 1 z.if-number-eq1.false, ne_eqb _ 2 z.if-number-eq2.false, ne_eqb _ 3 z.if-number-eq3.false, ne_eqb _ 4 z.if-number-eq4.false, eq-eqb _ 5 z.if-number-eq5.true) z.of_length-then-number-eq5.ensures
+returns-in-BadArgument c = rw c.in-BadArgument.is c.argument.ensures
 
-pub returns-then-number-eq6 : goal.returns-then-number-eq6
+pub returns-in-NotAFilter : goal.returns-in-NotAFilter
 unfolding reason_texts
-returns-then-number-eq6 c =
-    let z = c in
-    rw (ne_eqb _ 1 z.if-number-eq1.false, ne_eqb _ 2 z.if-number-eq2.false, ne_eqb _ 3 z.if-number-eq3.false, ne_eqb _ 4 z.if-number-eq4.false, ne_eqb _ 5 z.if-number-eq5.false, eq-eqb _ 6 z.if-number-eq6.true) z.of_sum.ensures
+returns-in-NotAFilter c = rw c.in-NotAFilter.is c.other.ensures
 
-pub returns-then-number-eq7 : goal.returns-then-number-eq7
+pub returns-in-FiltersFull : goal.returns-in-FiltersFull
 unfolding reason_texts
-returns-then-number-eq7 c =
-    let z = c in
-    rw (ne_eqb _ 1 z.if-number-eq1.false, ne_eqb _ 2 z.if-number-eq2.false, ne_eqb _ 3 z.if-number-eq3.false, ne_eqb _ 4 z.if-number-eq4.false, ne_eqb _ 5 z.if-number-eq5.false, ne_eqb _ 6 z.if-number-eq6.false, eq-eqb _ 7 z.if-number-eq7.true) z.argument.ensures
+returns-in-FiltersFull c = rw c.in-FiltersFull.is (puts_next c.word-in-FiltersFull.ensures (puts_none _ _))
 
-pub returns-then-number-eq18 : goal.returns-then-number-eq18
+pub returns-in-BadLengthByte : goal.returns-in-BadLengthByte
 unfolding reason_texts
-returns-then-number-eq18 c =
-    let z = c in
-    rw (ne_eqb _ 1 z.if-number-eq1.false, ne_eqb _ 2 z.if-number-eq2.false, ne_eqb _ 3 z.if-number-eq3.false, ne_eqb _ 4 z.if-number-eq4.false, ne_eqb _ 5 z.if-number-eq5.false, ne_eqb _ 6 z.if-number-eq6.false, ne_eqb _ 7 z.if-number-eq7.false, eq-eqb _ 18 z.if-number-eq18.true) z.other.ensures
+returns-in-BadLengthByte c = rw c.in-BadLengthByte.is c.of_length.ensures
 
-pub returns-then-number-eq19 : goal.returns-then-number-eq19
+pub returns-in-BadLength : goal.returns-in-BadLength
 unfolding reason_texts
-returns-then-number-eq19 c =
-    let z = c in
-    rw (ne_eqb _ 1 z.if-number-eq1.false, ne_eqb _ 2 z.if-number-eq2.false, ne_eqb _ 3 z.if-number-eq3.false, ne_eqb _ 4 z.if-number-eq4.false, ne_eqb _ 5 z.if-number-eq5.false, ne_eqb _ 6 z.if-number-eq6.false, ne_eqb _ 7 z.if-number-eq7.false, ne_eqb _ 18 z.if-number-eq18.false, eq-eqb _ 19 z.if-number-eq19.true) (puts_next z.word-then-number-eq19.ensures (puts_none _ _))
+returns-in-BadLength c = rw c.in-BadLength.is c.of_length-in-BadLength.ensures
 
-pub returns : goal.returns
+pub returns-in_default : goal.returns-in_default
 unfolding reason_texts
-returns c =
-    rw (ne_eqb _ 1 c.if-number-eq1.false, ne_eqb _ 2 c.if-number-eq2.false, ne_eqb _ 3 c.if-number-eq3.false, ne_eqb _ 4 c.if-number-eq4.false, ne_eqb _ 5 c.if-number-eq5.false, ne_eqb _ 6 c.if-number-eq6.false, ne_eqb _ 7 c.if-number-eq7.false, ne_eqb _ 18 c.if-number-eq18.false, ne_eqb _ 19 c.if-number-eq19.false) (puts_none _ _)
+returns-in_default c =
+    let d = c.in_default in
+    rw (number_not _ TooShort d.not-TooShort, number_not _ BadLead d.not-BadLead, number_not _ UnknownCommand d.not-UnknownCommand, number_not _ BadLengthByte d.not-BadLengthByte, number_not _ BadLength d.not-BadLength, number_not _ BadSum d.not-BadSum, number_not _ BadArgument d.not-BadArgument, number_not _ NotAFilter d.not-NotAFilter, number_not _ FiltersFull d.not-FiltersFull)
+    (puts_none _ _)

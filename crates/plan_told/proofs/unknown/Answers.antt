@@ -3,6 +3,4 @@ use Rattle.plan_told.proofs.unknown.Goals as goal
 
 pub returns : goal.returns
 returns c =
-    let z = c in
-    let y = z in
-    rw (← z.byte_at.ensures) (puts_next y.word-a.ensures (puts_next z.hex.ensures (puts_none _ _)))
+    rw (← c.byte_at.ensures) (puts_next c.word-a.ensures (puts_next c.hex.ensures (puts_none _ _)))

@@ -3,11 +3,4 @@ use Rattle.plan_told.proofs.yes.Goals as goal
 
 pub returns : goal.returns
 returns c =
-    let z = c in
-    let y = z in
-    let x = y in
-    let w = x in
-    let v = w in
-    let u = v in
-    let t = u in
-    puts_next t.word-a.ensures (puts_next u.decimal-b.ensures (puts_next v.word-c.ensures (puts_next w.decimal-d.ensures (puts_next x.word-e.ensures (puts_next y.decimal-f.ensures (puts_next z.word.ensures (puts_none _ _)))))))
+    puts_next c.word-a.ensures (puts_next c.decimal-b.ensures (puts_next c.word-c.ensures (puts_next c.decimal-d.ensures (puts_next c.word-e.ensures (puts_next c.decimal-f.ensures (puts_next c.word.ensures (puts_none _ _)))))))

@@ -1,8 +1,6 @@
 use Rattle.plan_wanted.proofs.judge.Goals.{in-Nothing, in-Says}
 use Rattle.plan_wanted.specs.Turns.{rest_turn, rest_done, tally_bad, tally_nothing, tally_says, tally_done}
 use mathlib.Core.Path.{◌∙◌}
-use Prim.Native.Nat.{◌-◌}
-use Prim.Native.Nat.{◌-◌}
 use mathlib.Core.Path.{◌∙◌}
 use native.Mathlib.Omega.{arith}
 use borrow.Author.Rules.{rules}

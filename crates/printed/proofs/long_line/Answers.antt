@@ -37,8 +37,7 @@ bounds-out-e c =
     omega (arith, line_parts a.number a.s.now, (head).0) in
     let headed : let a = c.args in
     Puts (head_of a.number (length a.s.now)) a.out.now a.at c.word-h.result c.word-h.new.out = rw (head).1 at c.word-h.ensures in
-    let bytes : (c.put_bytes-e.result < length c.put_bytes-e.new.out) × (length c.put_bytes-e.new.out ≡ length c.args.out.now) = let d = c in
-    let a = d.args in
+    let bytes : (c.put_bytes-e.result < length c.put_bytes-e.new.out) × (length c.put_bytes-e.new.out ≡ length c.args.out.now) = let a = c.args in
     bytes_put a.number a.s.now a.out.now a.at (fit) (headed) c.put_bytes-e.ensures in
     (bytes).0
 
@@ -53,6 +52,5 @@ returns c =
     omega (arith, line_parts a.number a.s.now, (head).0) in
     let headed : let a = c.args in
     Puts (head_of a.number (length a.s.now)) a.out.now a.at c.word-h.result c.word-h.new.out = rw (head).1 at c.word-h.ensures in
-    let d = c in
-    let a = d.args in
+    let a = c.args in
     line_put a.number a.s.now a.out.now a.at (fit) (headed) c.put_bytes-e.ensures

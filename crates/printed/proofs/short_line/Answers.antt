@@ -31,23 +31,20 @@ pub put_bytes-e-requires : goal.put_bytes-e-requires
 put_bytes-e-requires c =
     let fit : c.args.at + length (line_of (reading c.args.number c.args.s.now)) ≤ length c.args.out.now = let a = c.args in
     omega (arith, line_short a.number a.s.now (omega arith), c.short_length-size.ensures) in
-    let d = c in
-    let a = d.args in
-    omega (arith, (head_put a.number a.s.now a.out.now a.at (fit) d.put_head-h.ensures).0)
+    let a = c.args in
+    omega (arith, (head_put a.number a.s.now a.out.now a.at (fit) c.put_head-h.ensures).0)
 
 pub bounds-out-e : goal.bounds-out-e
 bounds-out-e c =
     let fit : c.args.at + length (line_of (reading c.args.number c.args.s.now)) ≤ length c.args.out.now = let a = c.args in
     omega (arith, line_short a.number a.s.now (omega arith), c.short_length-size.ensures) in
-    let bytes : (c.put_bytes-e.result < length c.put_bytes-e.new.out) × (length c.put_bytes-e.new.out ≡ length c.args.out.now) = let d = c in
-    let a = d.args in
-    bytes_put a.number a.s.now a.out.now a.at (fit) d.put_head-h.ensures c.put_bytes-e.ensures in
+    let bytes : (c.put_bytes-e.result < length c.put_bytes-e.new.out) × (length c.put_bytes-e.new.out ≡ length c.args.out.now) = let a = c.args in
+    bytes_put a.number a.s.now a.out.now a.at (fit) c.put_head-h.ensures c.put_bytes-e.ensures in
     (bytes).0
 
 pub returns : goal.returns
 returns c =
     let fit : c.args.at + length (line_of (reading c.args.number c.args.s.now)) ≤ length c.args.out.now = let a = c.args in
     omega (arith, line_short a.number a.s.now (omega arith), c.short_length-size.ensures) in
-    let d = c in
-    let a = d.args in
-    line_put a.number a.s.now a.out.now a.at (fit) d.put_head-h.ensures c.put_bytes-e.ensures
+    let a = c.args in
+    line_put a.number a.s.now a.out.now a.at (fit) c.put_head-h.ensures c.put_bytes-e.ensures

@@ -3,8 +3,4 @@ use Rattle.quiet_told.proofs.place.Goals as goal
 
 pub returns : goal.returns
 returns c =
-    let y = c in
-    let x = y in
-    let w = x in
-    let v = w in
-    puts_next v.word-a.ensures (puts_next w.decimal-b.ensures (puts_next x.word-c.ensures (puts_next y.decimal.ensures (puts_none _ _))))
+    puts_next c.word-a.ensures (puts_next c.decimal-b.ensures (puts_next c.word-c.ensures (puts_next c.decimal.ensures (puts_none _ _))))

@@ -1,52 +1,47 @@
-use borrow.Author.Tests.{eq-eqb, ne_eqb}
+use native.Mathlib.Omega.{arith}
+use borrow.Author.Tests.{ne_eqb}
 use Rattle.lent.specs.Behind.{puts_next, puts_none}
 use Rattle.quiet_told.specs.Answer.{reason_texts}
 use Rattle.quiet_told.proofs.reason.Goals as goal
 
-pub returns-then-number-eq0 : goal.returns-then-number-eq0
+pub returns-in-0 : goal.returns-in-0
 unfolding reason_texts
-returns-then-number-eq0 c =
-    let z = c in
-    rw (eq-eqb _ 0 z.if-number-eq0.true) z.outside.ensures
+returns-in-0 c = rw c.in-0.is c.outside.ensures
 
-pub returns-then-number-eq1 : goal.returns-then-number-eq1
+pub returns-in-1 : goal.returns-in-1
 unfolding reason_texts
-returns-then-number-eq1 c =
-    let z = c in
-    rw (ne_eqb _ 0 z.if-number-eq0.false, eq-eqb _ 1 z.if-number-eq1.true) (puts_next z.word.ensures (puts_none _ _))
+returns-in-1 c = rw c.in-1.is (puts_next c.word.ensures (puts_none _ _))
 
-pub returns-then-number-eq2 : goal.returns-then-number-eq2
+pub returns-in-2 : goal.returns-in-2
 unfolding reason_texts
-returns-then-number-eq2 c =
-    let z = c in
-    rw (ne_eqb _ 0 z.if-number-eq0.false, ne_eqb _ 1 z.if-number-eq1.false, eq-eqb _ 2 z.if-number-eq2.true) (puts_next z.word-then-number-eq2.ensures (puts_none _ _))
+returns-in-2 c = rw c.in-2.is (puts_next c.word-in-2.ensures (puts_none _ _))
 
-pub returns-then-number-eq3 : goal.returns-then-number-eq3
+pub returns-in-3 : goal.returns-in-3
 unfolding reason_texts
-returns-then-number-eq3 c =
-    let z = c in
-    rw (ne_eqb _ 0 z.if-number-eq0.false, ne_eqb _ 1 z.if-number-eq1.false, ne_eqb _ 2 z.if-number-eq2.false, eq-eqb _ 3 z.if-number-eq3.true) (puts_next z.word-then-number-eq3.ensures (puts_none _ _))
+returns-in-3 c = rw c.in-3.is (puts_next c.word-in-3.ensures (puts_none _ _))
 
-pub returns-then-number-eq4 : goal.returns-then-number-eq4
+pub returns-in-4 : goal.returns-in-4
 unfolding reason_texts
-returns-then-number-eq4 c =
-    let z = c in
-    rw (ne_eqb _ 0 z.if-number-eq0.false, ne_eqb _ 1 z.if-number-eq1.false, ne_eqb _ 2 z.if-number-eq2.false, ne_eqb _ 3 z.if-number-eq3.false, eq-eqb _ 4 z.if-number-eq4.true) (puts_next z.word-then-number-eq4.ensures (puts_none _ _))
+returns-in-4 c = rw c.in-4.is (puts_next c.word-in-4.ensures (puts_none _ _))
 
-pub returns-then-number-eq6 : goal.returns-then-number-eq6
+pub returns-in-6 : goal.returns-in-6
 unfolding reason_texts
-returns-then-number-eq6 c =
-    let z = c in
-    rw (ne_eqb _ 0 z.if-number-eq0.false, ne_eqb _ 1 z.if-number-eq1.false, ne_eqb _ 2 z.if-number-eq2.false, ne_eqb _ 3 z.if-number-eq3.false, ne_eqb _ 4 z.if-number-eq4.false, eq-eqb _ 6 z.if-number-eq6.true) (puts_next z.word-then-number-eq6.ensures (puts_none _ _))
+returns-in-6 c = rw c.in-6.is (puts_next c.word-in-6.ensures (puts_none _ _))
 
-pub returns-then-number-eq7 : goal.returns-then-number-eq7
+pub returns-in-7 : goal.returns-in-7
 unfolding reason_texts
-returns-then-number-eq7 c =
-    let z = c in
-    rw (ne_eqb _ 0 z.if-number-eq0.false, ne_eqb _ 1 z.if-number-eq1.false, ne_eqb _ 2 z.if-number-eq2.false, ne_eqb _ 3 z.if-number-eq3.false, ne_eqb _ 4 z.if-number-eq4.false, ne_eqb _ 6 z.if-number-eq6.false, eq-eqb _ 7 z.if-number-eq7.true) (puts_next z.word-then-number-eq7.ensures (puts_none _ _))
+returns-in-7 c = rw c.in-7.is (puts_next c.word-in-7.ensures (puts_none _ _))
 
-pub returns : goal.returns
+pub returns-in_default : goal.returns-in_default
 unfolding reason_texts
-returns c =
-    let z = c in
-    rw (ne_eqb _ 0 z.if-number-eq0.false, ne_eqb _ 1 z.if-number-eq1.false, ne_eqb _ 2 z.if-number-eq2.false, ne_eqb _ 3 z.if-number-eq3.false, ne_eqb _ 4 z.if-number-eq4.false, ne_eqb _ 6 z.if-number-eq6.false, ne_eqb _ 7 z.if-number-eq7.false) (puts_next z.word-2.ensures (puts_none _ _))
+returns-in_default c =
+    rw (
+      ne_eqb c.args.number 0 (search (c.in_default, arith)),
+      ne_eqb c.args.number 1 (search (c.in_default, arith)),
+      ne_eqb c.args.number 2 (search (c.in_default, arith)),
+      ne_eqb c.args.number 3 (search (c.in_default, arith)),
+      ne_eqb c.args.number 4 (search (c.in_default, arith)),
+      ne_eqb c.args.number 6 (search (c.in_default, arith)),
+      ne_eqb c.args.number 7 (search (c.in_default, arith)),
+    )
+    (puts_next c.word-in_default.ensures (puts_none _ _))

@@ -4,5 +4,4 @@ use Rattle.record.proofs.put.Goals as goal
 
 pub returns : goal.returns
 returns c =
-    let a = c.args in
-    record_put a.seconds a.datagram.now _ _ _ _ _ _ (omega arith) c.word-a.ensures c.word.ensures
+    record_put c.args.seconds c.args.datagram.now _ _ _ _ _ _ _ (omega arith) c.to_be_bytes.ensures c.word-e.ensures c.word.ensures

@@ -3,6 +3,4 @@ use Rattle.sheet.proofs.number.Goals as goal
 
 pub returns : goal.returns
 returns c =
-    let z = c in
-    let y = z in
-    puts_next y.byte-e.ensures (puts_next z.decimal.ensures (puts_none _ _))
+    puts_next c.byte-e.ensures (puts_next c.decimal.ensures (puts_none _ _))

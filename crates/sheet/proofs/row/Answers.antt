@@ -3,8 +3,4 @@ use Rattle.sheet.proofs.row.Goals as goal
 
 pub returns : goal.returns
 returns c =
-    let z = c in
-    let y = z in
-    let x = y in
-    let w = x in
-    puts_append (puts_append (puts_append w.when-e.ensures x.counts-f.ensures) y.gaps-h.ensures) (puts_next z.byte.ensures (puts_none _ _))
+    puts_append (puts_append (puts_append c.when-e.ensures c.counts-f.ensures) c.gaps-h.ensures) (puts_next c.byte.ensures (puts_none _ _))

@@ -3,10 +3,6 @@ use Rattle.sheet.proofs.when.Goals as goal
 
 pub returns : goal.returns
 returns c =
-    let z = c in
-    let y = z in
-    let x = y in
-    let e = x in
-    let from = rw e.begins-from.ensures at y.seconds-f.ensures in
-    let to = rw e.ends-to.ensures at z.seconds.ensures in
-    puts_append (puts_append (puts_next x.decimal-e.ensures (puts_none _ _)) from) to
+    let from = rw c.begins.ensures at c.seconds-f.ensures in
+    let to = rw c.ends.ensures at c.seconds.ensures in
+    puts_append (puts_append (puts_next c.decimal-e.ensures (puts_none _ _)) from) to

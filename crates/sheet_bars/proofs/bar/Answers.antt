@@ -3,10 +3,4 @@ use Rattle.sheet_bars.proofs.bar.Goals as goal
 
 pub returns : goal.returns
 returns c =
-    let g = c in
-    let f = g in
-    let e = f in
-    let d = e in
-    let b = d in
-    let a = b in
-    puts_append a.numbered-a.ensures (puts_append b.numbered-b.ensures (puts_append d.numbered-c.ensures (puts_next e.word-d.ensures (puts_next f.word-e.ensures (puts_next g.word.ensures (puts_none _ _))))))
+    puts_append c.numbered-a.ensures (puts_append c.numbered-b.ensures (puts_append c.numbered-c.ensures (puts_next c.word-d.ensures (puts_next c.word-e.ensures (puts_next c.word.ensures (puts_none _ _))))))

@@ -3,6 +3,4 @@ use Rattle.sheet_bars.proofs.numbered.Goals as goal
 
 pub returns : goal.returns
 returns c =
-    let b = c in
-    let a = b in
-    puts_next a.word-e.ensures (puts_next b.decimal.ensures (puts_none _ _))
+    puts_next c.word-e.ensures (puts_next c.decimal.ensures (puts_none _ _))

@@ -3,8 +3,4 @@ use Rattle.sheet_svg.proofs.count_line.Goals as goal
 
 pub returns : goal.returns
 returns c =
-    let e = c in
-    let d = e in
-    let b = d in
-    let a = b in
-    puts_append (rw a.height-h.ensures at a.bar-a.ensures) (puts_append (rw a.height-h.ensures at b.above-b.ensures) (puts_next d.decimal-c.ensures (puts_next e.word.ensures (puts_none _ _))))
+    puts_append (rw c.height-h.ensures at c.bar-a.ensures) (puts_append (rw c.height-h.ensures at c.above-b.ensures) (puts_next c.decimal-c.ensures (puts_next c.word.ensures (puts_none _ _))))

@@ -3,6 +3,4 @@ use Rattle.sheet_svg.proofs.end.Goals as goal
 
 pub returns : goal.returns
 returns c =
-    let b = c in
-    let a = b in
-    puts_next a.word-a.ensures (puts_next b.word.ensures (puts_none _ _))
+    puts_next c.word-a.ensures (puts_next c.word.ensures (puts_none _ _))

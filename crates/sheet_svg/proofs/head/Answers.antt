@@ -3,9 +3,4 @@ use Rattle.sheet_svg.proofs.head.Goals as goal
 
 pub returns : goal.returns
 returns c =
-    let f = c in
-    let e = f in
-    let d = e in
-    let b = d in
-    let a = b in
-    puts_next a.word-a.ensures (puts_next b.word-b.ensures (puts_next d.word-c.ensures (puts_append e.put_title-d.ensures (puts_next f.word.ensures (puts_none _ _)))))
+    puts_next c.word-a.ensures (puts_next c.word-b.ensures (puts_next c.word-c.ensures (puts_append c.put_title-d.ensures (puts_next c.word.ensures (puts_none _ _)))))

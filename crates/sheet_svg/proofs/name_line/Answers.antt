@@ -3,7 +3,4 @@ use Rattle.sheet_svg.proofs.name_line.Goals as goal
 
 pub returns : goal.returns
 returns c =
-    let d = c in
-    let b = d in
-    let a = b in
-    puts_append (rw a.place.ensures at a.numbered-a.ensures) (puts_append b.numbered-b.ensures (puts_next d.word.ensures (puts_none _ _)))
+    puts_append (rw c.place.ensures at c.numbered-a.ensures) (puts_append c.numbered-b.ensures (puts_next c.word.ensures (puts_none _ _)))

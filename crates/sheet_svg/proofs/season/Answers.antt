@@ -3,8 +3,4 @@ use Rattle.sheet_svg.proofs.season.Goals as goal
 
 pub returns : goal.returns
 returns c =
-    let e = c in
-    let d = e in
-    let b = d in
-    let a = b in
-    puts_append (puts_append (puts_append a.bars-c.ensures b.name_line-d.ensures) (rw d.begins.ensures at d.time_line-e.ensures)) (rw e.ends.ensures at e.time_line.ensures)
+    puts_append (puts_append (puts_append c.bars-c.ensures c.name_line-d.ensures) (rw c.begins.ensures at c.time_line-e.ensures)) (rw c.ends.ensures at c.time_line.ensures)

@@ -3,8 +3,4 @@ use Rattle.sheet_svg.proofs.time_line.Goals as goal
 
 pub returns : goal.returns
 returns c =
-    let e = c in
-    let d = e in
-    let b = d in
-    let a = b in
-    puts_append (rw a.place.ensures at a.numbered-a.ensures) (puts_next b.word-b.ensures (puts_next d.put_time-c.ensures (puts_next e.word.ensures (puts_none _ _))))
+    puts_append (rw c.place.ensures at c.numbered-a.ensures) (puts_next c.word-b.ensures (puts_next c.put_time-c.ensures (puts_next c.word.ensures (puts_none _ _))))

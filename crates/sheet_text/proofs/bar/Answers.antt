@@ -6,9 +6,7 @@ use Rattle.sheet_text.proofs.bar.Goals as goal
 
 pub returns : goal.returns
 returns c =
-    let z = c in
-    let y = z in
-    let k = y.length_of-k.ensures.0 in
-    let x = rw k at y.same-e.ensures in
-    let w = rw k at z.same.ensures in
-    rw (length-replicate {A = ℕ} (bar_length y.args.n y.args.most) 35) (puts_next x (puts_next w (puts_none _ _)))
+    let k = c.length_of-k.ensures.0 in
+    let x = rw k at c.same-e.ensures in
+    let w = rw k at c.same.ensures in
+    rw (length-replicate {A = ℕ} (bar_length c.args.n c.args.most) 35) (puts_next x (puts_next w (puts_none _ _)))

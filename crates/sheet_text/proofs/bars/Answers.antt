@@ -3,9 +3,5 @@ use Rattle.sheet_text.proofs.bars.Goals as goal
 
 pub returns : goal.returns
 returns c =
-    let z = c in
-    let y = z in
-    let x = y in
-    let w = x in
-    let rows = rw w.greatest-most.ensures at z.bar_rows.ensures in
-    puts_append (puts_next w.byte-e.ensures (puts_next x.word-f.ensures (puts_next y.byte-g.ensures (puts_none _ _)))) rows
+    let rows = rw c.greatest-most.ensures at c.bar_rows.ensures in
+    puts_append (puts_next c.byte-e.ensures (puts_next c.word-f.ensures (puts_next c.byte-g.ensures (puts_none _ _)))) rows

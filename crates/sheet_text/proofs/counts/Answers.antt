@@ -3,8 +3,4 @@ use Rattle.sheet_text.proofs.counts.Goals as goal
 
 pub returns : goal.returns
 returns c =
-    let z = c in
-    let y = z in
-    let x = y in
-    let w = x in
-    puts_append (puts_append (puts_append w.number-e.ensures x.number-f.ensures) y.number-h.ensures) (puts_next z.byte.ensures (puts_none _ _))
+    puts_append (puts_append (puts_append c.number-e.ensures c.number-f.ensures) c.number-h.ensures) (puts_next c.byte.ensures (puts_none _ _))

@@ -3,7 +3,5 @@ use Rattle.sheet_text.proofs.number.Goals as goal
 
 pub returns : goal.returns
 returns c =
-    let z = c in
-    let y = z in
-    let x = rw (y.gap.ensures.0, y.places.ensures) at y.same-e.ensures in
-    puts_next x (puts_next z.decimal.ensures (puts_none _ _))
+    let x = rw (c.gap.ensures.0, c.places.ensures) at c.same-e.ensures in
+    puts_next x (puts_next c.decimal.ensures (puts_none _ _))

@@ -3,9 +3,4 @@ use Rattle.sheet_text.proofs.page.Goals as goal
 
 pub returns : goal.returns
 returns c =
-    let z = c in
-    let y = z in
-    let x = y in
-    let w = x in
-    let v = w in
-    puts_append (puts_append (puts_append (puts_append v.put_title-d.ensures (puts_next w.byte-e.ensures (puts_none _ _))) x.put_counts-f.ensures) y.put_gaps-g.ensures) z.put_bars.ensures
+    puts_append (puts_append (puts_append (puts_append c.put_title-d.ensures (puts_next c.byte-e.ensures (puts_none _ _))) c.put_counts-f.ensures) c.put_gaps-g.ensures) c.put_bars.ensures

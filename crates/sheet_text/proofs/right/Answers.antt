@@ -3,7 +3,5 @@ use Rattle.sheet_text.proofs.right.Goals as goal
 
 pub returns : goal.returns
 returns c =
-    let z = c in
-    let y = z in
-    let x = rw y.gap.ensures.0 at y.same-e.ensures in
-    puts_next x (puts_next z.word.ensures (puts_none _ _))
+    let x = rw c.gap.ensures.0 at c.same-e.ensures in
+    puts_next x (puts_next c.word.ensures (puts_none _ _))

@@ -3,5 +3,4 @@ use Rattle.sheet_text.proofs.same.Goals as goal
 
 pub returns : goal.returns
 returns c =
-    let a = c in
-    rw (take_same a.args.n 40 a.args.b a.requires) at c.word.ensures
+    rw (take_same c.args.n 40 c.args.b c.requires) at c.word.ensures

@@ -7,7 +7,4 @@ use Rattle.lent.specs.Puts.{over}
 use Rattle.text.proofs.decimal.Given as goal
 
 abbrev pub invariant-loop-i : goal.invariant-loop-i
-invariant-loop-i l = (l.i ≤ l.k) × (l.k ≡ length (decimal_of l.n)) × (l.at + l.k ≤ length l.initial.out) × (length l.out ≡ length l.initial.out) × (over (last_digits l.i l.rest) l.out l.at ≡ over (decimal_of l.n) l.initial.out l.at)
-
-abbrev pub decreases-loop-i : goal.decreases-loop-i
-decreases-loop-i l = l.i
+invariant-loop-i l = (l.k ≡ length (decimal_of l.n)) × (l.at + l.k ≤ length l.initial.out) × (length l.out ≡ length l.initial.out) × (over (last_digits l.i l.rest) l.out l.at ≡ over (decimal_of l.n) l.initial.out l.at)

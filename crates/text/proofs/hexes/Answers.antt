@@ -1,4 +1,4 @@
-use Prim.Native.Nat.{◌+◌, ◌-◌}
+use Prim.Native.Nat.{◌+◌}
 use lib.ListN.{drop}
 use borrow.Author.Rules.{rules}
 use Rattle.lent.specs.Behind.{puts_next, puts_none, rest_less, rest_none}
@@ -6,13 +6,12 @@ use Rattle.text.specs.Text.{hex_texts}
 use Rattle.text.specs.Hexes.{hex_next, hex_end}
 use Rattle.text.proofs.hexes.Goals as goal
 
-pub loop-i-preserved : goal.loop-i-preserved
-loop-i-preserved c =
-    let l = c.loop-i in
+pub loop-b-preserved : goal.loop-b-preserved
+loop-b-preserved c =
+    let l = c.loop-b in
+    let i = l.b-index in
     let s = c.args.s.now in
-    (search rules, search rules, rest_less (hex_texts (drop (l.i + 1) s)) (rw (hex_next s l.i (search rules)) at l.invariant.2) (puts_next c.hex-e.ensures (puts_none _ _)))
+    (search rules, rest_less (hex_texts (drop (i + 1) s)) (rw (hex_next s i c.loop-b-test.true) at l.invariant.1) (puts_next c.hex-e.ensures (puts_none _ _)))
 
 pub returns : goal.returns
-returns c =
-    let l = c.loop-i in
-    rest_none (hex_end _ l.i (search rules)) l.invariant.2
+returns c = rest_none (hex_end _ c.loop-b.b-index (search rules)) c.loop-b.invariant.1

@@ -1,33 +1,20 @@
-use Prim.Native.Nat.{ℕ, ◌^◌, ◌≤◌}
-use mathlib.Core.Path.{◌≡◌, ap, ◌∙◌}
-use mathlib.Core.List.{List, [], ◌∷◌, ◌++◌}
-use lib.ListN.{length, take}
-use native.Mathlib.Omega.{arith}
+use Rattle.std.specs.Prelude.{ℕ, ◌≡◌, false, ◌∷◌, ◌++◌, length, take}
+use Rattle.std.proofs.Common.{rules, sym, ap, ◌∙◌, arith}
+use Rattle.std.proofs.lemmas.List.{take_all}
 use Rattle.refusal.specs.Test.{tests}
+use Rattle.frame.specs.Frame.{listed, listed_take}
 use Rattle.lead.specs.Lead.{event_first, event_second}
+use Rattle.event_type.specs.Types.{lacks}
 use Rattle.frame.specs.Written.{refuses, passes}
 use Rattle.event.specs.Layout.{width_of, mac_bytes, front}
-use Rattle.event.specs.Writing.{event_frame}
 use Rattle.event.specs.Fits.{frames, lacking, front_put}
-use borrow.Author.Rules.{rules}
+use Rattle.writers.proofs.event.Goals.{else-has_instance-via-then-has_instance+else-n-eq0, else-has_instance-via-else-has_instance}
 use Rattle.writers.proofs.event.Goals as goal
 
-pub returns-then-n-gt-EVENT_DATA : goal.returns-then-n-gt-EVENT_DATA
-unfolding event_frame
-returns-then-n-gt-EVENT_DATA c = refuses c.args.out.now (search (tests, rules))
-
-pub returns-then-target_most-target : goal.returns-then-target_most-target
-unfolding event_frame
-returns-then-target_most-target c =
+pub returns-then-n-eq0 : goal.returns-then-n-eq0
+returns-then-n-eq0 c =
     let a = c.args in
-    let h : 256 ^ width_of a.layout ≤ a.target = omega (arith, c.target_most.ensures) in
-    refuses a.out.now (search (tests, rules))
-
-pub returns-then-has_instance-n : goal.returns-then-has_instance-n
-returns-then-has_instance-n c =
-    let a = c.args in
-    let i = rw c.has_instance.ensures at c.if-has_instance-n.true in
-    refuses a.out.now (lacking (width_of a.layout) a.mac a.target a.kind a.«data».now (search rules) i)
+    refuses a.out.now (lacking (width_of a.layout) a.mac a.target a.kind a.«data».now (search rules) (search (tests, rules)))
 
 pub returns : goal.returns
 returns c =
@@ -35,11 +22,12 @@ returns c =
     let w = width_of a.layout in
     let n = length a.«data».now in
     let b = c.behind_mac-b.result in
-    let l : List ℕ = b.0 ∷ b.1 ∷ b.2 ∷ b.3 ∷ b.4 ∷ [] in
-    let f : take c.data_at-end.result ((event_first ∷ event_second ∷ mac_bytes a.mac) ++ l) ≡ front w a.mac a.target a.kind n =
-    ap (λ (i : ℕ). take i ((event_first ∷ event_second ∷ mac_bytes a.mac) ++ l)) c.data_at-end.ensures
-    ∙ front_put w a.mac a.target a.kind n l c.behind_mac-b.ensures in
-    let i = rw c.has_instance.ensures at c.if-has_instance-n.false in
+    let five : length b ≡ 5 = search rules in
+    let l : listed 0 5 b ≡ b = sym (listed_take 0 5 b (omega arith)) ∙ take_all 5 b (omega arith) in
+    let f : take c.data_at.result ((event_first ∷ event_second ∷ mac_bytes a.mac) ++ listed 0 5 b) ≡ front w a.mac a.target a.kind n =
+    ap (λ (i : ℕ). take i ((event_first ∷ event_second ∷ mac_bytes a.mac) ++ listed 0 5 b)) c.data_at.ensures
+    ∙ front_put w a.mac a.target a.kind n (listed 0 5 b) (rw l c.behind_mac-b.ensures) in
+    let i : lacks a.kind n ≡ false = search (tests, rules) in
     passes
     (frames w a.mac a.target a.kind a.«data».now (search rules) (omega (arith, c.target_most.ensures)) i)
     (rw f at c.write.ensures)
