@@ -17,7 +17,7 @@ use event_type::EventType;
 use line::Line;
 use meaning::Arguments;
 use profile::Profile;
-use reader::Held;
+use reader::{Held, ITEM_ROOM, Item};
 use refusal::Refusal;
 use request::Ipv4;
 use target::{Device, Group, LineTarget};
@@ -280,6 +280,15 @@ fn page(n: usize, b: &mut Timed, s: &[u8], t: &[u8], u: &[u8]) -> Page {
     }
 }
 
+// An item of nothing, for a call of a line that gives none.
+fn no_item() -> Item {
+    Item {
+        number: 0,
+        count: 0,
+        bytes: [0; ITEM_ROOM],
+    }
+}
+
 // A call of a line, by the second digit of its number.
 fn line(n: usize, l: Line, h: &mut Held, s: &[u8], t: &[u8]) -> Shown {
     match n {
@@ -294,12 +303,12 @@ fn line(n: usize, l: Line, h: &mut Held, s: &[u8], t: &[u8]) -> Shown {
         2 => {
             let f = reader::feed(l, *h, s);
             *h = f.held;
-            bench_lines::fed(f)
+            bench_lines::fed(f, no_item())
         }
         3 => {
             let f = reader::close(l, *h);
             *h = f.held;
-            bench_lines::closed(f)
+            bench_lines::closed(f, no_item())
         }
         4 => bench_lines::show(*h),
         5 => bench_lines::step(line::settled(l, s)),
@@ -435,7 +444,7 @@ impl State {
     pub fn answer(&mut self, line: &[u8], store: &mut [u8], out: &mut [u8], at: usize) -> usize {
         let mut space = [0u8; SPACE];
         match bench_calls::read(line, &mut space) {
-            Err(fault) => bench_calls::refused(out, at, fault),
+            Err(fault) => bench_calls::refused(out, at, Err(fault)),
             Ok(call) => self.call(call, &space, store, out, at),
         }
     }

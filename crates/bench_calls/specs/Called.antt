@@ -74,8 +74,9 @@ pub calls_one : {line bytes p q : List ℕ} {r s : Result Call Fault} → Calls 
 calls_one a b = (a.says ∙ sym b.says, a.leaves ∙ sym b.leaves)
 
 -- the answers
-abbrev pub refused_texts : Fault → List (List ℕ)
-refused_texts NoSuchCall = text "? no such call" ∷ []
-refused_texts NotAByte = text "? not a byte" ∷ []
-refused_texts WrongGroups = text "? wrong number of groups" ∷ []
-refused_texts WrongBytes = text "? wrong number of bytes" ∷ []
+abbrev pub refused_texts : Result Call Fault → List (List ℕ)
+refused_texts (Err NoSuchCall) = text "? no such call" ∷ []
+refused_texts (Err NotAByte) = text "? not a byte" ∷ []
+refused_texts (Err WrongGroups) = text "? wrong number of groups" ∷ []
+refused_texts (Err WrongBytes) = text "? wrong number of bytes" ∷ []
+refused_texts (Ok c) = []

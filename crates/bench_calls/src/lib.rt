@@ -227,27 +227,28 @@ pub fn read(line: &[u8], bytes: &mut [u8]) -> Result<Call, Fault>
     }
 }
 
-// What stands for a call that is none, by the places of the answers below (crate bench_say).
-fn kind_of(fault: Fault) -> usize
-    ensures { result ≡ fault_kind fault }
+// What stands for a call that is none, by the places of the answers below (crate bench_say); nothing stands for a call.
+fn kind_of(c: Result<Call, Fault>) -> usize
+    ensures { result ≡ fault_kind c }
 {
-    match fault {
-        Fault::NoSuchCall => 0x01,
-        Fault::NotAByte => 0x11,
-        Fault::WrongGroups => 0x21,
-        Fault::WrongBytes => 0x31,
+    match c {
+        Err(Fault::NoSuchCall) => 0x01,
+        Err(Fault::NotAByte) => 0x11,
+        Err(Fault::WrongGroups) => 0x21,
+        Err(Fault::WrongBytes) => 0x31,
+        Ok(_) => 0,
     }
 }
 
-// The answer to a line that is no call.
-pub fn refused(out: &mut [u8], at: usize, fault: Fault) -> usize
-    ensures { PutsAll (refused_texts fault) out.old at result out.new }
+// The answer to a line that is no call; nothing is put for one that is.
+pub fn refused(out: &mut [u8], at: usize, c: Result<Call, Fault>) -> usize
+    ensures { PutsAll (refused_texts c) out.old at result out.new }
 {
     bench_say::put(
         out,
         at,
         b"? no such call,? not a byte,? wrong number of groups,? wrong number of bytes",
-        Pieces(kind_of(fault), 0, 0, 0, 0, 0, 0),
+        Pieces(kind_of(c), 0, 0, 0, 0, 0, 0),
     )
 }
 

@@ -36,18 +36,19 @@ pub record Says (x : Shown) (ts : List (List ℕ)) : Type 0 where
 abbrev pub plain_shown : Pieces → Shown
 plain_shown p = record { pieces = p; bytes = replicate 68 0; count = 0; run = 0 }
 
-abbrev pub got_shown : ℕ → ℕ → Option Item → ℕ → Shown
-got_shown a x None none = plain_shown (three a x none 0 0 0)
-got_shown a x (Some i) none = record { pieces = three a x 0x42 i.number 0x52 i.count; bytes = i.bytes; count = i.count; run = 1 }
+-- where there is no item, the count and the bytes of the one handed here stand, and none of them is put
+abbrev pub got_shown : ℕ → ℕ → Option Item → Item → ℕ → Shown
+got_shown a x None z none = record { pieces = three a x none 0 0 0; bytes = z.bytes; count = z.count; run = 0 }
+got_shown a x (Some i) z none = record { pieces = three a x 0x42 i.number 0x52 i.count; bytes = i.bytes; count = i.count; run = 1 }
 
-abbrev pub given_shown : ℕ → ℕ → Given → ℕ → Shown
-given_shown a x f none = got_shown a x f.item none
+abbrev pub given_shown : ℕ → ℕ → Given → Item → ℕ → Shown
+given_shown a x f z none = got_shown a x f.item z none
 
-abbrev pub fed_shown : Given → Shown
-fed_shown f = given_shown 0x12 f.taken f 0x21
+abbrev pub fed_shown : Given → Item → Shown
+fed_shown f z = given_shown 0x12 f.taken f z 0x21
 
-abbrev pub closed_shown : Given → Shown
-closed_shown f = given_shown 0x01 0 f 0x31
+abbrev pub closed_shown : Given → Item → Shown
+closed_shown f z = given_shown 0x01 0 f z 0x31
 
 abbrev pub held_shown : Held → Shown
 held_shown h = record { pieces = three 0x62 h.len 0 0 0 0; bytes = replicate 68 0; count = pick (ltb h.len 67) h.len 67; run = 2 }
@@ -64,19 +65,19 @@ pub done_said : (h : Held) → shown_texts (plain_shown (three 0x01 0 0 0 0 0)) 
 unfolding before word_in
 done_said h = refl
 
-pub fed_said_lem : (f : Given) (h : Held) → shown_texts (fed_shown f) h ≡ fed_texts f
+pub fed_said_lem : (f : Given) (z : Item) (h : Held) → shown_texts (fed_shown f z) h ≡ fed_texts f
 unfolding before word_in
-fed_said_lem f h = go f.item
+fed_said_lem f z h = go f.item
   where
-    go : (g : Option Item) → shown_texts (got_shown 0x12 f.taken g 0x21) h ≡ text "0 taken " ∷ decimal_of f.taken ∷ got_texts (text " nothing") g
+    go : (g : Option Item) → shown_texts (got_shown 0x12 f.taken g z 0x21) h ≡ text "0 taken " ∷ decimal_of f.taken ∷ got_texts (text " nothing") g
     go None = refl
     go (Some i) = refl
 
-pub closed_said_lem : (f : Given) (h : Held) → shown_texts (closed_shown f) h ≡ closed_texts f
+pub closed_said_lem : (f : Given) (z : Item) (h : Held) → shown_texts (closed_shown f z) h ≡ closed_texts f
 unfolding before word_in
-closed_said_lem f h = go f.item
+closed_said_lem f z h = go f.item
   where
-    go : (g : Option Item) → shown_texts (got_shown 0x01 0 g 0x31) h ≡ text "0" ∷ got_texts (text " empty") g
+    go : (g : Option Item) → shown_texts (got_shown 0x01 0 g z 0x31) h ≡ text "0" ∷ got_texts (text " empty") g
     go None = refl
     go (Some i) = refl
 

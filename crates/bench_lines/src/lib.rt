@@ -9,7 +9,7 @@ ghost use Rattle.bench_lines.specs.Shown.{plain_shown, given_shown, fed_shown, c
 ghost use Rattle.bench_say.specs.Pieces.{three};
 
 use bench_say::Pieces;
-use reader::{Given, Held};
+use reader::{Given, Held, Item};
 use stream::Step;
 
 // An answer by value: pieces, and behind them the first of some bytes, of those that stand here (where run is 1), of those that a reader
@@ -53,12 +53,21 @@ pub fn done() -> Shown
     plain(Pieces(0x01, 0, 0, 0, 0, 0, 0))
 }
 
-// A piece, and the item that a call gave, or a word where it gave none.
-fn given(a: usize, x: u64, f: Given, none: usize) -> Shown
-    ensures { result ≡ given_shown a x f none }
+// A piece, and the item that a call gave, or a word where it gave none; the count and the bytes of this one stand behind the word, where
+// nothing is put.
+fn given(a: usize, x: u64, f: Given, or: Item, none: usize) -> Shown
+    ensures { result ≡ given_shown a x f or none }
 {
     match f.item {
-        None => plain(Pieces(a, x, none, 0, 0, 0, 0)),
+        None => {
+            let bytes = or.bytes;
+            Shown {
+                pieces: Pieces(a, x, none, 0, 0, 0, 0),
+                bytes,
+                count: or.count,
+                run: 0,
+            }
+        }
         Some(item) => {
             let bytes = item.bytes;
             Shown {
@@ -71,20 +80,20 @@ fn given(a: usize, x: u64, f: Given, none: usize) -> Shown
     }
 }
 
-// What a feeding call gave.
-pub fn fed(f: Given) -> Shown
-    ensures value { result ≡ fed_shown f }
+// What a feeding call gave; where it gave no item, the count and the bytes of this one stand, of which nothing is put.
+pub fn fed(f: Given, or: Item) -> Shown
+    ensures value { result ≡ fed_shown f or }
     ensures says { Says result (fed_texts f) }
 {
-    given(0x12, f.taken as u64, f, 0x21)
+    given(0x12, f.taken as u64, f, or, 0x21)
 }
 
-// What a closing call gave.
-pub fn closed(f: Given) -> Shown
-    ensures value { result ≡ closed_shown f }
+// What a closing call gave; the same.
+pub fn closed(f: Given, or: Item) -> Shown
+    ensures value { result ≡ closed_shown f or }
     ensures says { Says result (closed_texts f) }
 {
-    given(0x01, 0, f, 0x31)
+    given(0x01, 0, f, or, 0x31)
 }
 
 // What a reader holds.

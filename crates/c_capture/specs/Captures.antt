@@ -1,9 +1,8 @@
 -- Marks and summaries as another language hands them in and is handed them back, beside a refusal.
-use Rattle.std.specs.Prelude.{ℕ, None, ◌≡◌, List, []}
+use Rattle.std.specs.Prelude.{ℕ, None, ◌≡◌, List}
 use Rattle.refusal.specs.Answer.{Answer, refused, full}
 use Rattle.summary.specs.declared.Summary.{Summary}
 use Rattle.capture.specs.declared.Mark.{Mark}
-use Rattle.summary.specs.Summary.{counted_in}
 use Rattle.capture.specs.declared.Kept.{Kept}
 use Rattle.capture.specs.Capture.{nothing_kept}
 use Rattle.append.specs.declared.Appended.{Appended}
@@ -60,14 +59,14 @@ appended_out a u x =
     record { refusal = went_no a; used = k.used; summary = summary_out k.summary }
 
 -- of a run, beside how many went in and how many were refused,
-abbrev pub run_out : Answer Ran → ℕ → Summary → WickRan
-run_out a u x =
-    let r = stands_after a (record { entered = 0; refused = 0; used = u; summary = x }) in
+abbrev pub run_out : Answer Ran → Ran → WickRan
+run_out a x =
+    let r = stands_after a x in
     record { refusal = went_no a; entered = r.entered; refused = r.refused; used = r.used; summary = summary_out r.summary }
 
-abbrev pub run_at_out : Answer RanAt → Mark → Summary → WickRanAt
-run_at_out a m x =
-    let r = stands_after a (record { entered = 0; refused = 0; kept = record { mark = m; summary = x } }) in
+abbrev pub run_at_out : Answer RanAt → RanAt → WickRanAt
+run_at_out a x =
+    let r = stands_after a x in
     record {
       refusal = went_no a;
       entered = r.entered;
@@ -76,12 +75,19 @@ run_at_out a m x =
       summary = summary_out r.kept.summary;
     }
 
--- a mark, beside a refusal one of nothing, and the summary of a count, beside a refusal that of no records
+-- a mark, beside a refusal one of nothing, and the summary of a count
 abbrev pub opened_out : Answer Mark → WickOpened
 opened_out a = record { refusal = went_no a; mark = mark_out (stands_after a (record { used = 0; last = None })) }
 
-abbrev pub counted_out : Answer Summary → WickCounted
-counted_out a = record { refusal = went_no a; summary = summary_out (stands_after a (counted_in [])) }
+abbrev pub counted_out : Answer Summary → Summary → WickCounted
+counted_out a x = record { refusal = went_no a; summary = summary_out (stands_after a x) }
+
+-- beside the refusal of a whole run none went in and none was refused, and what was handed in stands
+abbrev pub ran_none : ℕ → Summary → Ran
+ran_none u x = record { entered = 0; refused = 0; used = u; summary = x }
+
+abbrev pub ran_at_none : Mark → Summary → RanAt
+ran_at_none m x = record { entered = 0; refused = 0; kept = record { mark = m; summary = x } }
 
 -- the contract of emptying: what is handed over, and every byte of the buffer
 pub record EmptiesOut (b : List ℕ) (v : ℕ) (w : WickCapture) (b' : List ℕ) : Type 0 where
@@ -99,9 +105,9 @@ pub record AppendsOut (b : List ℕ) (u : ℕ) (x : Summary) (t : ℕ) (d : List
 
 -- of a run by the letter and by a mark
 pub record RunsOut (b : List ℕ) (u : ℕ) (x : Summary) (t : ℕ) (run : List ℕ) (w : WickRan) (b' : List ℕ) : Type 0 where
-  pub says : w ≡ run_out (ran_out (ran b u x t run)) u x
+  pub says : w ≡ run_out (ran_out (ran b u x t run)) (ran_none u x)
   pub leaves : b' ≡ ran_left (ran b u x t run) b
 
 pub record RunsAtOut (b : List ℕ) (m : Mark) (x : Summary) (t : ℕ) (run : List ℕ) (w : WickRanAt) (b' : List ℕ) : Type 0 where
-  pub says : w ≡ run_at_out (ran_at_out (ran_at b m x t run)) m x
+  pub says : w ≡ run_at_out (ran_at_out (ran_at b m x t run)) (ran_at_none m x)
   pub leaves : b' ≡ ran_at_left (ran_at b m x t run) b

@@ -13,7 +13,7 @@ use Rattle.append.specs.Append.{emptied, Empties, verdict_at, AppendsAt, verdict
 use Rattle.morning.specs.declared.Ran.{Ran}
 use Rattle.morning.specs.declared.RanAt.{RanAt}
 use Rattle.morning.specs.Morning.{ran, Runs, ran_at, RunsAt}
-use Rattle.c_capture.specs.Captures.{found_out, appended_out, run_out, run_at_out, EmptiesOut, AppendsAtOut, AppendsOut, RunsOut, RunsAtOut}
+use Rattle.c_capture.specs.Captures.{found_out, appended_out, run_out, run_at_out, ran_none, ran_at_none, EmptiesOut, AppendsAtOut, AppendsOut, RunsOut, RunsAtOut}
 use Rattle.c_capture.specs.Records.{record_out, stood_out}
 
 pub empties_out : {b b' : List ℕ} {v : ℕ} (r : Result Kept Refusal) → Empties (emptied b v) b v r b' → EmptiesOut b v (found_out (said r) nothing_kept) b'
@@ -30,12 +30,12 @@ pub appends_out : {b b' d : List ℕ} {u : ℕ} {x x' : Summary} {t : ℕ} (r : 
 appends_out {u = u} {x' = x'} r f w = rw (← f) (record { says = ap (λ (a : Answer Appended). appended_out a u x') w.says; leaves = w.leaves })
 
 pub runs_out_lem : {b b' run : List ℕ} {u : ℕ} {x x' : Summary} {t : ℕ} (r : Result Ran Refusal) → x' ≡ x
-    → Runs (ran b u x' t run) b r b' → RunsOut b u x t run (run_out (said r) u x') b'
-runs_out_lem {u = u} {x' = x'} r f w = rw (← f) (record { says = ap (λ (a : Answer Ran). run_out a u x') w.says; leaves = w.leaves })
+    → Runs (ran b u x' t run) b r b' → RunsOut b u x t run (run_out (said r) (ran_none u x')) b'
+runs_out_lem {u = u} {x' = x'} r f w = rw (← f) (record { says = ap (λ (a : Answer Ran). run_out a (ran_none u x')) w.says; leaves = w.leaves })
 
 pub runs_at_out : {b b' run : List ℕ} {m m' : Mark} {x x' : Summary} {t : ℕ} (r : Result RanAt Refusal) → m' ≡ m → x' ≡ x
-    → RunsAt (ran_at b m' x' t run) b r b' → RunsAtOut b m x t run (run_at_out (said r) m' x') b'
-runs_at_out {m' = m'} {x' = x'} r e f w = rw (← e, ← f) (record { says = ap (λ (a : Answer RanAt). run_at_out a m' x') w.says; leaves = w.leaves })
+    → RunsAt (ran_at b m' x' t run) b r b' → RunsAtOut b m x t run (run_at_out (said r) (ran_at_none m' x')) b'
+runs_at_out {m' = m'} {x' = x'} r e f w = rw (← e, ← f) (record { says = ap (λ (a : Answer RanAt). run_at_out a (ran_at_none m' x')) w.says; leaves = w.leaves })
 
 -- a record, told by its place and the next
 pub stood_out_lem : (p : ℕ) (a : Answer Entry) → stood_out p (standing p a) ≡ record_out p a

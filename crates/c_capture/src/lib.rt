@@ -209,17 +209,12 @@ pub fn appended_out(r: Result<Appended, Refusal>, used: usize, x: Summary) -> Wi
     }
 }
 
-// What a run by the letter answers; beside a refusal of the whole call none and none, and what was handed in.
-pub fn ran_out(r: Result<Ran, Refusal>, used: usize, x: Summary) -> WickRan
-    ensures { result ≡ run_out (said r) used x }
+// What a run by the letter answers; beside a refusal of the whole call stand these.
+pub fn ran_out(r: Result<Ran, Refusal>, or: Ran) -> WickRan
+    ensures { result ≡ run_out (said r) or }
 {
     let refusal = went_no(&r);
-    let r = r.unwrap_or(Ran {
-        entered: 0,
-        refused: 0,
-        used,
-        summary: x,
-    });
+    let r = r.unwrap_or(or);
     WickRan {
         refusal,
         entered: r.entered,
@@ -229,16 +224,12 @@ pub fn ran_out(r: Result<Ran, Refusal>, used: usize, x: Summary) -> WickRan
     }
 }
 
-// What a run by a mark answers; beside a refusal of the whole call none and none, and what was handed in.
-pub fn ran_at_out(r: Result<RanAt, Refusal>, mark: Mark, x: Summary) -> WickRanAt
-    ensures { result ≡ run_at_out (said r) mark x }
+// What a run by a mark answers; beside a refusal of the whole call stand these.
+pub fn ran_at_out(r: Result<RanAt, Refusal>, or: RanAt) -> WickRanAt
+    ensures { result ≡ run_at_out (said r) or }
 {
     let refusal = went_no(&r);
-    let a = r.unwrap_or(RanAt {
-        entered: 0,
-        refused: 0,
-        kept: Kept { mark, summary: x },
-    });
+    let a = r.unwrap_or(or);
     WickRanAt {
         refusal,
         entered: a.entered,
@@ -263,12 +254,12 @@ pub fn opened_out(r: Result<Mark, Refusal>) -> WickOpened
     }
 }
 
-// What counting a capture afresh answers; beside a refusal stands the summary of no records.
-pub fn counted_out(r: Result<Summary, Refusal>) -> WickCounted
-    ensures { result ≡ counted_out (said r) }
+// What counting a capture afresh answers; beside a refusal stands this summary.
+pub fn counted_out(r: Result<Summary, Refusal>, or: Summary) -> WickCounted
+    ensures { result ≡ counted_out (said r) or }
 {
     let refusal = went_no(&r);
-    let x = r.unwrap_or(summary::nothing());
+    let x = r.unwrap_or(or);
     WickCounted {
         refusal,
         summary: summary_out(x),

@@ -3,9 +3,11 @@
 use Rattle.std.specs.Prelude.{ℕ, ◌≡◌, refl, List, [], ◌∷◌, map, length, Option, Some, None}
 use Rattle.std.proofs.Common.{sym, ap, ◌∙◌}
 use Rattle.refusal.specs.Refusals.{number_of}
+use Rattle.refusal.specs.Answer.{Answer}
 use Rattle.stream.specs.Stream.{whole}
 use Rattle.event.specs.declared.Layout.TheVariants.{Three, Two}
 use Rattle.season.specs.declared.Season.{Season}
+use Rattle.tally.specs.Tally.{no_tally}
 use Rattle.report.specs.Report.{reported}
 use Rattle.by_parts.specs.declared.Stage.{Stage}
 use Rattle.by_parts.specs.declared.Stage.TheVariants.{Fresh, Of, Refused}
@@ -68,7 +70,7 @@ after_parts w [] = w
 after_parts w (p ∷ ps) = after_parts (after_part w p) ps
 
 abbrev pub at_end : WickSeasonsState → WickSeasons
-at_end w = seasons_out (ended (state_in w))
+at_end w = seasons_out (ended (state_in w)) no_tally.seasons
 
 pub parts_are : (w : WickSeasonsState) (ps : List (List ℕ)) → state_in (after_parts w ps) ≡ parted_all (state_in w) ps
 unfolding after_parts parted_all
@@ -76,12 +78,12 @@ parts_are w [] = refl
 parts_are w (p ∷ ps) = parts_are (after_part w p) ps ∙ ap (λ (x : SoFar). parted_all x ps) (state_back (parted (state_in w) p))
 
 pub calls_are : (c : WickCorridor) (b : WickBoundaries) (ps : List (List ℕ))
-    → at_end (after_parts (after_begin c b) ps) ≡ seasons_out (ended (parted_all (begun (corridor_in c) (boundaries_in b)) ps))
+    → at_end (after_parts (after_begin c b) ps) ≡ seasons_out (ended (parted_all (begun (corridor_in c) (boundaries_in b)) ps)) no_tally.seasons
 calls_are c b ps =
     let x : SoFar = begun (corridor_in c) (boundaries_in b) in
-    ap (λ (y : SoFar). seasons_out (ended y)) (parts_are (after_begin c b) ps ∙ ap (λ (y : SoFar). parted_all y ps) (state_back x))
+    ap (λ (y : SoFar). seasons_out (ended y) no_tally.seasons) (parts_are (after_begin c b) ps ∙ ap (λ (y : SoFar). parted_all y ps) (state_back x))
 
 -- so, whatever the cut, they give the report of document 02's W-213 over all parts put together
 pub report_from_c : (c : WickCorridor) (b : WickBoundaries) (ps : List (List ℕ))
-    → at_end (after_parts (after_begin c b) ps) ≡ seasons_out (reported (whole ps) (length (whole ps)) (corridor_in c) (boundaries_in b))
-report_from_c c b ps = calls_are c b ps ∙ ap seasons_out (report_in_parts (corridor_in c) (boundaries_in b) ps)
+    → at_end (after_parts (after_begin c b) ps) ≡ seasons_out (reported (whole ps) (length (whole ps)) (corridor_in c) (boundaries_in b)) no_tally.seasons
+report_from_c c b ps = calls_are c b ps ∙ ap (λ (a : Answer (List Season)). seasons_out a no_tally.seasons) (report_in_parts (corridor_in c) (boundaries_in b) ps)

@@ -48,14 +48,14 @@ season_out s =
       gaps = s.gaps;
     }
 
--- what a report answers: the seasons, or the refusal beside four of which nothing is counted
-abbrev pub seasons_out : Answer (List Season) → WickSeasons
-seasons_out (full s) = record { refusal = 0; seasons = map season_out s }
-seasons_out (refused k) = record { refusal = k; seasons = map season_out no_tally.seasons }
+-- what a report answers: the seasons, or the refusal beside those that are handed here
+abbrev pub seasons_out : Answer (List Season) → List Season → WickSeasons
+seasons_out (full s) x = record { refusal = 0; seasons = map season_out s }
+seasons_out (refused k) x = record { refusal = k; seasons = map season_out x }
 
--- beside a refusal all else is 0
+-- those of no records: beside a refusal all else is 0
 abbrev pub no_season : WickSeason
 no_season = record { occupied = 0; presses = 0; holds = 0; has_longest = 0; longest = 0; total = 0; gaps = 0 }
 
-pub seasons_refused : (k : ℕ) → seasons_out (refused k) ≡ record { refusal = k; seasons = no_season ∷ no_season ∷ no_season ∷ no_season ∷ [] }
+pub seasons_refused : (k : ℕ) → seasons_out (refused k) no_tally.seasons ≡ record { refusal = k; seasons = no_season ∷ no_season ∷ no_season ∷ no_season ∷ [] }
 seasons_refused k = refl

@@ -160,22 +160,28 @@ fn season_out(s: Season) -> WickSeason
     }
 }
 
-// The four seasons, and back.
+// The four seasons, and back. (The hints here and below: a state and a report that are handed to C are written straight into its struct.)
+#[inline(always)]
 fn four_in(w: [WickSeason; tally::SEASONS]) -> [Season; tally::SEASONS]
     ensures { result ≡ map season_in w }
 {
     w.map(season_in)
 }
 
+#[inline(always)]
 fn four_out(s: [Season; tally::SEASONS]) -> [WickSeason; tally::SEASONS]
     ensures { result ≡ map season_out s }
 {
     s.map(season_out)
 }
 
-// What a report answers. Beside a refusal nothing is counted.
-pub fn seasons_out(r: Result<[Season; tally::SEASONS], Refusal>) -> WickSeasons
-    ensures { result ≡ seasons_out (said r) }
+// What a report answers; beside a refusal stand these seasons.
+#[inline(always)]
+pub fn seasons_out(
+    r: Result<[Season; tally::SEASONS], Refusal>,
+    or: [Season; tally::SEASONS],
+) -> WickSeasons
+    ensures { result ≡ seasons_out (said r) or }
 {
     match r {
         Ok(seasons) => WickSeasons {
@@ -184,7 +190,7 @@ pub fn seasons_out(r: Result<[Season; tally::SEASONS], Refusal>) -> WickSeasons
         },
         Err(refusal) => WickSeasons {
             refusal: refusal.number(),
-            seasons: four_out(tally::nothing().seasons),
+            seasons: four_out(or),
         },
     }
 }
@@ -254,6 +260,7 @@ fn passed_in(w: WickSeasonsState) -> Passed
 }
 
 // A state of crate by_parts, and back.
+#[inline(always)]
 pub fn state_in(w: WickSeasonsState) -> SoFar
     ensures { result ≡ state_in w }
 {
@@ -267,6 +274,7 @@ pub fn state_in(w: WickSeasonsState) -> SoFar
     }
 }
 
+#[inline(always)]
 pub fn state_out(x: SoFar) -> WickSeasonsState
     ensures { result ≡ state_out x }
 {

@@ -9,7 +9,7 @@ use Rattle.extent.specs.declared.Line.{Line}
 use Rattle.reader.specs.declared.Held.{Held}
 use Rattle.reader.specs.declared.Given.{Given as Item}
 use Rattle.reader.specs.Reader.{given_of, closed_of, Feeds, Closes}
-use Rattle.c_values.specs.Lines.{given_out, fed_out, closed_out}
+use Rattle.c_values.specs.Lines.{given_out, no_item, fed_out, closed_out}
 use Rattle.c_values.specs.declared.WickBooked.{WickBooked}
 use Rattle.c_values.specs.Books.{booked_by, AsksOut, RepliesOut}
 
@@ -22,10 +22,10 @@ pub replied_out : {asked : List ℕ} {n : ℕ} {f : Result ℕ Refusal} {after :
 replied_out e a = record { says = λ last. e ∙ ap booked_by (a.says last); leaves = a.leaves }
 
 -- what a call of a reader gives, of the line and the reader that were handed in
-pub fed_out_lem : {on on' : Line} {h h' : Held} {p : List ℕ} (r : Item) → on' ≡ on → h' ≡ h → Feeds on' h' p r → given_out r ≡ fed_out on h p
+pub fed_out_lem : {on on' : Line} {h h' : Held} {p : List ℕ} (r : Item) → on' ≡ on → h' ≡ h → Feeds on' h' p r → given_out r no_item ≡ fed_out on h p
 fed_out_lem {on} {on'} {h} {h'} {p} r e f w =
-    ap given_out (w.only ∙ ap (given_of p) w.says) ∙ ap (λ z. fed_out z h' p) e ∙ ap (λ z. fed_out on z p) f
+    ap (λ (g : Item). given_out g no_item) (w.only ∙ ap (given_of p) w.says) ∙ ap (λ z. fed_out z h' p) e ∙ ap (λ z. fed_out on z p) f
 
-pub closed_out_lem : {on on' : Line} {h h' : Held} (r : Item) → on' ≡ on → h' ≡ h → Closes on' h' r → given_out r ≡ closed_out on h
+pub closed_out_lem : {on on' : Line} {h h' : Held} (r : Item) → on' ≡ on → h' ≡ h → Closes on' h' r → given_out r no_item ≡ closed_out on h
 closed_out_lem {on} {on'} {h} {h'} r e f w =
-    ap given_out (w.only ∙ ap closed_of w.says) ∙ ap (λ z. closed_out z h') e ∙ ap (closed_out on) f
+    ap (λ (g : Item). given_out g no_item) (w.only ∙ ap closed_of w.says) ∙ ap (λ z. closed_out z h') e ∙ ap (closed_out on) f

@@ -25,7 +25,8 @@ reader_in w = record { bytes = w.bytes; len = w.len }
 abbrev pub reader_out : Held → WickReader
 reader_out h = record { bytes = h.bytes; len = h.len }
 
--- whether there is an item, its number, how many bytes it has, and these in front of zeros
+-- whether there is an item, its number, how many bytes it has, and these in front of zeros; where there is none, the count and the bytes
+-- of the one handed here
 abbrev pub item_is : Option Item → ℕ
 item_is None = 0
 item_is (Some x) = 1
@@ -34,31 +35,35 @@ abbrev pub item_no : Option Item → ℕ
 item_no None = 0
 item_no (Some x) = x.number
 
-abbrev pub item_count : Option Item → ℕ
-item_count None = 0
-item_count (Some x) = x.count
+abbrev pub item_count : Option Item → Item → ℕ
+item_count None z = z.count
+item_count (Some x) z = x.count
 
-abbrev pub item_bytes : Option Item → List ℕ
-item_bytes None = replicate item_room 0
-item_bytes (Some x) = x.bytes
+abbrev pub item_bytes : Option Item → Item → List ℕ
+item_bytes None z = z.bytes
+item_bytes (Some x) z = x.bytes
 
-abbrev pub given_out : Given → WickGiven
-given_out r =
+abbrev pub given_out : Given → Item → WickGiven
+given_out r z =
     record {
       reader = reader_out r.held;
       taken = r.taken;
       has_item = item_is r.item;
       item = item_no r.item;
-      count = item_count r.item;
-      bytes = item_bytes r.item;
+      count = item_count r.item z;
+      bytes = item_bytes r.item z;
     }
+
+-- an item of nothing
+abbrev pub no_item : Item
+no_item = record { number = 0; count = 0; bytes = replicate item_room 0 }
 
 -- what a feeding and a closing call give
 abbrev pub fed_out : Line → Held → List ℕ → WickGiven
-fed_out on h p = given_out (given_of p (feed (settle on) (held_of on h) p))
+fed_out on h p = given_out (given_of p (feed (settle on) (held_of on h) p)) no_item
 
 abbrev pub closed_out : Line → Held → WickGiven
-closed_out on h = given_out (closed_of (close (settle on) (held_of on h)))
+closed_out on h = given_out (closed_of (close (settle on) (held_of on h))) no_item
 
 -- what stands at a position
 abbrev pub position_out : Position → WickItem

@@ -19,7 +19,7 @@ use book::Timed;
 use filters::{Filter, Filters};
 use line::{Item, Line};
 use quiet_run::Loud;
-use reader::{Given, Held, ITEM_ROOM};
+use reader::{Given, Held};
 use refusal::Refusal;
 use table::Entry;
 use target::{Device, LineTarget};
@@ -239,9 +239,9 @@ pub fn reader_out(h: Held) -> WickReader
     WickReader { bytes, len: h.len }
 }
 
-// What a feeding or a closing call gives.
-pub fn given_out(g: Given) -> WickGiven
-    ensures { result ≡ given_out g }
+// What a feeding or a closing call gives; where there is no item, the count and the bytes of this one stand.
+pub fn given_out(g: Given, or: reader::Item) -> WickGiven
+    ensures { result ≡ given_out g or }
 {
     let reader = reader_out(g.held);
     match g.item {
@@ -256,14 +256,17 @@ pub fn given_out(g: Given) -> WickGiven
                 bytes,
             }
         }
-        None => WickGiven {
-            reader,
-            taken: g.taken,
-            has_item: 0,
-            item: 0,
-            count: 0,
-            bytes: [0; ITEM_ROOM],
-        },
+        None => {
+            let bytes = or.bytes;
+            WickGiven {
+                reader,
+                taken: g.taken,
+                has_item: 0,
+                item: 0,
+                count: or.count,
+                bytes,
+            }
+        }
     }
 }
 

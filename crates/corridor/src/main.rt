@@ -251,8 +251,9 @@ fn progress(rt: &HostRuntime, before: u64, bytes: u64, records: u64) {
     tell_read(rt, &mut line, bytes, records);
 }
 
-// Reads a capture, part by part, to its end or to where it is refused: the report then, or the error of a read that failed. (The loop has to
-// count: nothing says that input ends. Where it never does there is no report.)
+// Reads a capture, part by part, to its end or to where it is refused: the report then, or the error of a read that failed. What a read answered
+// is handed to by_parts::turn, a failure as -1, and by its answer the run goes on or stops. (The loop has to count: nothing says that input ends.
+// Where it never does there is no report.)
 fn follow(
     rt: &HostRuntime,
     input: &mut impl Read,
@@ -262,10 +263,13 @@ fn follow(
     let mut x = start;
     let mut bytes: u64 = 0;
     for _ in 0..u64::MAX {
-        let n = input.read(buf)?;
+        let (got, more, fault) = match input.read(buf) {
+            Ok(n) => (n as isize, n as u64, None),
+            Err(e) => (-1, 0, Some(e)),
+        };
         let before = bytes;
-        bytes = bytes.saturating_add(n as u64);
-        match by_parts::turn(x, n as isize, buf) {
+        bytes = bytes.saturating_add(more);
+        match by_parts::turn(x, got, buf) {
             Some(Turned::Goes(y)) => {
                 progress(rt, before, bytes, y.passed.records);
                 x = y;
@@ -274,7 +278,12 @@ fn follow(
                 progress(rt, before, bytes, y.passed.records);
                 return Ok(Some(y));
             }
-            None => return Ok(None),
+            None => {
+                return match fault {
+                    Some(e) => Err(e),
+                    None => Ok(None),
+                };
+            }
         }
     }
     Ok(None)

@@ -25,7 +25,9 @@ pub fn word(out: &mut [u8], at: usize, s: &[u8]) -> usize
     if out.len() < n || out.len() - n < at {
         return at;
     }
-    let end = at + n;
-    out[at..end].copy_from_slice(s);
-    end
+    // byte by byte: by copy_from_slice the archive for C needs memmove from outside
+    for i in 0..n {
+        out[at + i] = s[i];
+    }
+    at + n
 }

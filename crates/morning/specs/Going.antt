@@ -47,7 +47,7 @@ module _ {b : List ℕ} {m : Mark} {x : Summary} {t : ℕ} {run : List ℕ} wher
       go (full ds) e h = record { left = ds; parts = e; same = rw e; room = omega arith; few = omega arith }
 
   -- what is left begins with a part
-  going_cut : {P : Type 0} {i : ℕ} {z : StandAt} → Going b m x t run i z → i < length run → (k : ℕ) → part_at (drop i run) ≡ refused k → P
+  pub going_cut : {P : Type 0} {i : ℕ} {z : StandAt} → Going b m x t run i z → i < length run → (k : ℕ) → part_at (drop i run) ≡ refused k → P
   going_cut {P} {i} g h k e =
       clash (let q = parts_cut (drop i run) k (simp length-drop (omega arith)) e in let r = g.parts in cc)
 
@@ -55,7 +55,7 @@ module _ {b : List ℕ} {m : Mark} {x : Summary} {t : ℕ} {run : List ℕ} wher
   going_room {i} g n e = omega (arith, (part_there (drop i run) n e).1, length-drop i run, g.room)
 
   -- which is tried
-  going_next : {i : ℕ} {z : StandAt} → Going b m x t run i z → (n : ℕ) → part_at (drop i run) ≡ full n
+  pub going_next : {i : ℕ} {z : StandAt} → Going b m x t run i z → (n : ℕ) → part_at (drop i run) ≡ full n
       → (d : List ℕ) → d ≡ take (i + 2 + n - (i + 2)) (drop (i + 2) run) → (r : Result Kept Refusal) (b' : List ℕ)
       → AppendsAt (verdict_at z.buffer z.kept.mark z.kept.summary t d) z.buffer z.kept.mark t d r b'
       → Going b m x t run (i + 2 + n)
@@ -104,7 +104,7 @@ module _ {b : List ℕ} {m : Mark} {x : Summary} {t : ℕ} {run : List ℕ} wher
   going_refused {i} {z} g n e d f k b' a = rw add-zero at (going_next g n e d f (Err k) b' a)
 
   -- and when nothing is left, all were
-  going_ends : {i : ℕ} {z : StandAt} → Going b m x t run i z → length run ≤ i
+  pub going_ends : {i : ℕ} {z : StandAt} → Going b m x t run i z → length run ≤ i
       → RunsAt (full (all_of b m x t run)) b (Ok (record { entered = z.entered; refused = z.refused; kept = z.kept })) z.buffer
   unfolding singles_at
   going_ends {i} {z} g h =

@@ -257,10 +257,10 @@ said_err (Err x) = refl
 pub first_said : (s : List ℕ) (r : Result ℕ Loud) (x : Option Loud) → r ≡ scanned true s → x ≡ result_err r → said_first x ≡ first_loud 0 (items (settle Request) s)
 first_said s r x e f = ap said_first f ∙ said_err r ∙ ap first_of e ∙ scan_closed s
 
-passes_none : (s : List ℕ) → none ≡ first_loud 0 (items (settle Request) s) → true ≡ quiet_run s
+pub passes_none : (s : List ℕ) → none ≡ first_loud 0 (items (settle Request) s) → true ≡ quiet_run s
 passes_none s e = sym ((quiet_first 0 s).1 (sym e))
 
-passes_loud : (s : List ℕ) (at k m : ℕ) → loud at k m ≡ first_loud 0 (items (settle Request) s) → false ≡ quiet_run s
+pub passes_loud : (s : List ℕ) (at k m : ℕ) → loud at k m ≡ first_loud 0 (items (settle Request) s) → false ≡ quiet_run s
 passes_loud s at k m e = go (quiet_run s) refl
   where
     go : (x : Bool) → quiet_run s ≡ x → false ≡ quiet_run s

@@ -3,7 +3,7 @@
 // Document 01, "Requests and their argument ranges".
 #![tactic(auto)]
 
-ghost use Rattle.std.specs.Prelude.{◌≡◌};
+ghost use Rattle.std.specs.Prelude.{◌≡◌, ◌||◌, eqb};
 ghost use Rattle.refusal.specs.Answer.{said};
 ghost use Rattle.target.specs.Target.{is_lighting, said_target, aimed, line_of, lights_of, status_of, device_of, device_number};
 
@@ -60,15 +60,15 @@ pub fn is_lighting(a: u8) -> bool
     a <= LAST_TARGET || a == LOW_BROADCAST || a == BROADCAST
 }
 
-// What a number names as a target, where `broadcast` is whether it is one that names all.
-fn aimed(broadcast: bool, t: u8) -> Target
-    ensures { said_target result ≡ aimed broadcast t }
+// What a number names as a target, where one of these two numbers names all. (They are looked at last: most numbers are gear or a group.)
+fn aimed(t: u8, one: u8, other: u8) -> Target
+    ensures { said_target result ≡ aimed (eqb t one || eqb t other) t }
 {
     if t <= LAST_GEAR {
         Target::Gear(t)
     } else if t <= LAST_TARGET {
         Target::Group(Group(t - BASE))
-    } else if broadcast {
+    } else if t == one || t == other {
         Target::Broadcast
     } else {
         Target::Nothing
@@ -92,14 +92,14 @@ impl LineTarget {
     pub fn lights(self) -> Target
         ensures { said_target result ≡ lights_of self }
     {
-        aimed(self.0 == LOW_BROADCAST || self.0 == BROADCAST, self.0)
+        aimed(self.0, LOW_BROADCAST, BROADCAST)
     }
 
     // What a query of gear status (AB) with this target asks about: its broadcast is 81.
     pub fn status(self) -> Target
         ensures { said_target result ≡ status_of self }
     {
-        aimed(self.0 == STATUS_BROADCAST, self.0)
+        aimed(self.0, STATUS_BROADCAST, STATUS_BROADCAST)
     }
 }
 

@@ -28,7 +28,9 @@ ghost use Rattle.filters.specs.Filters.{filters_of, entry_of};
 ghost use Rattle.filter_plan.specs.Plan.{left_of, checked};
 ghost use Rattle.filter_plan.specs.Table.{left_by};
 ghost use Rattle.filter_since.specs.Trace.{since_of};
+ghost use Rattle.summary.specs.Summary.{counted_in};
 ghost use Rattle.capture.specs.Capture.{opened, counted, prefixed, nothing_kept, entry_at};
+ghost use Rattle.tally.specs.Tally.{no_tally};
 ghost use Rattle.report.specs.Report.{reported};
 ghost use Rattle.by_parts.specs.Parts.{begun, parted, ended};
 ghost use Rattle.book.specs.Ticks.{timed, fresh_timed, GivesUp};
@@ -47,7 +49,7 @@ ghost use Rattle.c_datagrams.specs.Events.{event_out, mac_in};
 ghost use Rattle.c_values.specs.Numbers.{number_out, line_out, device_out, entry_out};
 ghost use Rattle.c_values.specs.Filters.{filters_out, filter_out};
 ghost use Rattle.c_values.specs.Books.{book_out, AsksOut, RepliesOut};
-ghost use Rattle.c_values.specs.Lines.{line_by, reader_in, reader_out, fed_out, closed_out, position_out, quiet_out};
+ghost use Rattle.c_values.specs.Lines.{line_by, reader_in, reader_out, no_item, fed_out, closed_out, position_out, quiet_out};
 ghost use Rattle.c_capture.specs.Captures.{summary_in, mark_in, found_out, opened_out, counted_out, EmptiesOut, AppendsAtOut, AppendsOut, RunsOut, RunsAtOut};
 ghost use Rattle.c_capture.specs.Records.{record_out};
 ghost use Rattle.c_seasons.specs.Seasons.{corridor_in, boundaries_in, seasons_out};
@@ -74,7 +76,9 @@ use clock_day::Given;
 use colour::Colour;
 use event::Layout;
 use meaning::Arguments;
+use morning::{Ran, RanAt};
 use profile::Profile;
+use reader::Item;
 use target::{Device, Group, LineTarget};
 
 // The exclusive-or of the bytes of a run, 0 for none.
@@ -653,12 +657,26 @@ pub extern "C" fn wick_reader() -> WickReader
     c_values::reader_out(reader::fresh())
 }
 
+// An item of nothing, which stands where a call of a reader gives none.
+fn no_item() -> Item
+    ensures { result ≡ no_item }
+{
+    Item {
+        number: 0,
+        count: 0,
+        bytes: [0; reader::ITEM_ROOM],
+    }
+}
+
 // Feeds a reader of a line with a part.
 #[unsafe(no_mangle)]
 pub extern "C" fn wick_feed(on: u8, reader: WickReader, part: &[u8]) -> WickGiven
     ensures { result ≡ fed_out (line_by on) (reader_in reader) part.now }
 {
-    c_values::given_out(reader::feed(c_values::line_by(on), c_values::reader_in(reader), part))
+    c_values::given_out(
+        reader::feed(c_values::line_by(on), c_values::reader_in(reader), part),
+        no_item(),
+    )
 }
 
 // Closes a reader of a line: the next item of the bytes that it holds.
@@ -666,7 +684,10 @@ pub extern "C" fn wick_feed(on: u8, reader: WickReader, part: &[u8]) -> WickGive
 pub extern "C" fn wick_close(on: u8, reader: WickReader) -> WickGiven
     ensures { result ≡ closed_out (line_by on) (reader_in reader) }
 {
-    c_values::given_out(reader::close(c_values::line_by(on), c_values::reader_in(reader)))
+    c_values::given_out(
+        reader::close(c_values::line_by(on), c_values::reader_in(reader)),
+        no_item(),
+    )
 }
 
 // What stands at a position of a line from which on these bytes are there, and no more where it is closed (not 0).
@@ -739,7 +760,15 @@ pub extern "C" fn wick_capture_run(
     ensures { RunsOut buf.old used (summary_in summary) seconds run.now result buf.new }
 {
     let x = c_capture::summary_in(summary);
-    c_capture::ran_out(morning::run(buf, used, x, seconds, run), used, x)
+    c_capture::ran_out(
+        morning::run(buf, used, x, seconds, run),
+        Ran {
+            entered: 0,
+            refused: 0,
+            used,
+            summary: x,
+        },
+    )
 }
 
 // Appends a run of events to a capture by a mark.
@@ -755,7 +784,14 @@ pub extern "C" fn wick_capture_run_at(
 {
     let mark = c_capture::mark_in(mark);
     let x = c_capture::summary_in(summary);
-    c_capture::ran_at_out(morning::run_at(buf, mark, x, seconds, run), mark, x)
+    c_capture::ran_at_out(
+        morning::run_at(buf, mark, x, seconds, run),
+        RanAt {
+            entered: 0,
+            refused: 0,
+            kept: Kept { mark, summary: x },
+        },
+    )
 }
 
 // Opens a capture: its mark.
@@ -769,9 +805,9 @@ pub extern "C" fn wick_capture_open(buf: &[u8], used: usize) -> WickOpened
 // Counts a capture afresh.
 #[unsafe(no_mangle)]
 pub extern "C" fn wick_capture_count(buf: &[u8], used: usize) -> WickCounted
-    ensures { result ≡ counted_out (counted buf.now used) }
+    ensures { result ≡ counted_out (counted buf.now used) (counted_in []) }
 {
-    c_capture::counted_out(capture::count(buf, used))
+    c_capture::counted_out(capture::count(buf, used), summary::nothing())
 }
 
 // The longest good capture at the front of the bytes in use.
@@ -798,14 +834,17 @@ pub extern "C" fn wick_capture_seasons(
     who: WickCorridor,
     boundaries: WickBoundaries,
 ) -> WickSeasons
-    ensures { result ≡ seasons_out (reported buf.now used (corridor_in who) (boundaries_in boundaries)) }
+    ensures { result ≡ seasons_out (reported buf.now used (corridor_in who) (boundaries_in boundaries)) no_tally.seasons }
 {
-    c_seasons::seasons_out(report::report(
-        buf,
-        used,
-        c_seasons::corridor_in(who),
-        c_seasons::boundaries_in(boundaries),
-    ))
+    c_seasons::seasons_out(
+        report::report(
+            buf,
+            used,
+            c_seasons::corridor_in(who),
+            c_seasons::boundaries_in(boundaries),
+        ),
+        tally::nothing().seasons,
+    )
 }
 
 // A report of a capture of which no part has come.
@@ -833,9 +872,12 @@ pub extern "C" fn wick_seasons_part(state: WickSeasonsState, part: &[u8]) -> Wic
 // The four seasons, where no more parts come.
 #[unsafe(no_mangle)]
 pub extern "C" fn wick_seasons_end(state: WickSeasonsState) -> WickSeasons
-    ensures { result ≡ seasons_out (ended (state_in state)) }
+    ensures { result ≡ seasons_out (ended (state_in state)) no_tally.seasons }
 {
-    c_seasons::seasons_out(by_parts::end(c_seasons::state_in(state)))
+    c_seasons::seasons_out(
+        by_parts::end(c_seasons::state_in(state)),
+        tally::nothing().seasons,
+    )
 }
 
 // The check of a filter plan against the events that are wanted.

@@ -3,4 +3,4 @@ use Rattle.bench_calls.specs.Faults.{fault_of}
 use Rattle.bench_calls.proofs.refused.Goals as goal
 
 pub returns : goal.returns
-returns c = puts_same (fault_of c.args.fault c.kind_of.ensures) c.put.ensures
+returns c = puts_same (fault_of c.args.c c.kind_of.ensures) c.put.ensures
